@@ -1,0 +1,2 @@
+pub mod EffectGrows
+pub mod Grows

@@ -1,0 +1,82 @@
+-- What a crash may leave of a directory, at every moment since one.
+use Rattle.std.specs.Prelude.{◌≡◌, ◌⊎◌, ℕ, ◌^◌, ◌%◌, ◌≤◌, List, [], ◌∷◌, length, map, if◌then◌else◌, Option, None, Some, option_map, Contains, All}
+use Rattle.std.specs.FinMap as finite
+use Rattle.amq_model.specs.declared.directory.Control.{Control}
+use Rattle.amq_model.specs.RecordAt.{Spot}
+use Rattle.amq_model.specs.Scan.{IsScan}
+use Rattle.amq_model.specs.Names.{same}
+use Rattle.amq_model.specs.Directory.{FileOf, file_of, SaysControl, data_files, placed}
+use Rattle.amq_model.specs.Files.{FileName, Files, Image, IsImage, IsReading}
+use Rattle.amq_model.specs.Calls.{Call, Part, Outcome, Event, Past, listing, writing, syncing, renaming, fine, no_room, broken, done, partly, content}
+
+-- ---- what settles a failed call
+
+-- the name that a file had before it was renamed
+abbrev pub name_before : FileName → FileName → FileName → FileName
+name_before from to n = if same n to then from else n
+
+-- the files that were synced since, by their names before a call
+abbrev pub synced_since : Call → Outcome → List FileName → List FileName
+synced_since (syncing n) fine names = n ∷ names
+synced_since (renaming from to) fine names = map (name_before from to) names
+synced_since _ _ names = names
+
+-- Which part a failed call may have done, where the disk reads `part` of it: of a write to a file that was synced
+-- since, that one alone.
+abbrev pub MayHaveDone : List FileName → Call → Part → Part → Type 0
+MayHaveDone names (writing n place bytes) part other = Contains names n → other ≡ part
+MayHaveDone names _ part other = Unit {0}
+
+-- a list that answered Ok tells which files are there, and how long they are
+abbrev pub AgreesWithList : Call → Files → Files → Type 0
+AgreesWithList listing told s = (n : FileName) → option_map (λ f. length f.bytes) (finite.get s n) ≡ option_map (λ f. length f.bytes) (finite.get told n)
+AgreesWithList _ told s = Unit {0}
+
+-- ---- readings
+
+-- A reading of the moment before a call goes on to one of the moment after it. The files of `names` are synced later on.
+abbrev pub Next : List FileName → Call → Outcome → Files → Files → Files → Type 0
+Next names call fine told s new = (new ≡ done call s) × AgreesWithList call told s
+Next names call no_room told s new = new ≡ s
+Next names call (broken part) told s new = (other : Part) × MayHaveDone names call part other × (new ≡ partly call other s)
+
+-- The readings behind these calls, where the files of `names` are synced later on.
+abbrev pub ReadsBefore : List FileName → Files → List Event → Files → Type 0
+ReadsBefore names start [] s = s ≡ start
+ReadsBefore names start (e ∷ es) s = (old : Files) × ReadsBefore (synced_since e.call e.outcome names) start es old × Next names e.call e.outcome (content start es) old s
+
+-- The readings of this moment: what the disk reads, and for each call that failed and isn't settled those in which
+-- it was done, wasn't done, or, for a create, was done in part.
+abbrev pub Reads : Files → List Event → Files → Type 0
+Reads start es s = ReadsBefore [] start es s
+
+-- the readings while a call is under way
+abbrev pub ReadsDuring : Files → List Event → Call → Files → Type 0
+ReadsDuring start es call s = (old : Files) × Reads start es old × (part : Part) × (s ≡ partly call part old)
+
+-- the readings of every moment from t on, up to now: earlier ones, those inside the last call, and those behind it
+abbrev pub ReadsSince : Files → List Event → ℕ → ℕ → Files → Type 0
+ReadsSince start [] now t s = (t ≤ now) × (s ≡ start)
+ReadsSince start (e ∷ es) now t s = ReadsSince start es e.before t s
+    ⊎ ((t ≤ e.before) × ReadsDuring start es e.call s)
+    ⊎ ((t ≤ now) × Reads start (e ∷ es) s)
+
+-- What a crash at any moment from the end of call number t on may leave, with the reading that it is left of.
+abbrev pub MayLeave : Option Past → ℕ → Image → Image → Type 0
+MayLeave None t reading image = ⊥
+MayLeave (Some p) t reading image = (s : Files) × ReadsSince p.start p.calls p.moment t s × IsReading s reading × IsImage s image
+
+-- ---- false records
+
+-- the record is found, with the same fields, by the scan of the file of that name in the reading
+pub record IsFoundIn (reading : Image) (f : FileOf) (s : Spot) : Type 0 where
+  pub bytes : List ℕ
+  pub there : finite.get reading f.name ≡ Some bytes
+  pub spots : List Spot
+  pub scan : IsScan bytes ((file_of f.name bytes).id % 2 ^ 31) (file_of f.name bytes).version spots
+  pub found : Contains (map (placed (file_of f.name bytes).id) spots) (placed f.id s)
+
+-- Each record that is found in a data file of the image is found at the same place in the reading.
+abbrev pub NoFalseRecord : Image → Image → Type 0
+NoFalseRecord reading image = (control : Option Control) → SaysControl (finite.entries image) control →
+    All (λ f. (spots : List Spot) → IsScan f.bytes (f.id % 2 ^ 31) f.version spots → All (IsFoundIn reading f) spots) (data_files (finite.entries image) control)

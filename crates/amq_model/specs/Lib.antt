@@ -1,0 +1,14 @@
+pub mod Name
+pub mod Records
+pub mod RecordAt
+pub mod Scan
+pub mod Effect
+pub mod Names
+pub mod ControlFile
+pub mod Directory
+pub mod Files
+pub mod Calls
+pub mod Crash
+pub mod Kept
+pub mod Answers
+pub mod Legal

@@ -1,0 +1,9 @@
+-- What a file's name looks like.
+use Rattle.std.specs.Prelude.{ℕ, ◌<◌, ◌≤◌, List, length}
+use Rattle.std.specs.Str.{IsAscii}
+
+-- 1 to 255 ASCII bytes
+pub record HasNameForm (text : List ℕ) : Type 0 where
+  pub some : 0 < length text
+  pub short : length text ≤ 255
+  pub ascii : IsAscii text
