@@ -46,9 +46,11 @@ is_add _ = false
 
 -- an add, update, delete or prepare of a transaction
 abbrev pub works_in_tx : Command → Bool
-works_in_tx (c.Commit tx) = false
-works_in_tx (c.Rollback tx) = false
-works_in_tx _ = true
+works_in_tx (c.AddTx tx id user_type body) = true
+works_in_tx (c.UpdateTx tx id user_type body) = true
+works_in_tx (c.DeleteTx tx id body) = true
+works_in_tx (c.Prepare tx extra) = true
+works_in_tx _ = false
 
 -- the record of a command, with this number of records
 abbrev pub record_of : Command → ℕ → Option Record

@@ -1,5 +1,5 @@
 -- What a crash may leave of a directory, at every moment since one.
-use Rattle.std.specs.Prelude.{◌≡◌, ◌⊎◌, ℕ, ◌^◌, ◌%◌, ◌≤◌, List, [], ◌∷◌, length, map, if◌then◌else◌, Option, None, Some, option_map, Contains, All}
+use Rattle.std.specs.Prelude.{◌≡◌, ◌⊎◌, ℕ, ◌^◌, ◌%◌, ◌≤◌, List, [], ◌∷◌, length, map, filter, not, if◌then◌else◌, Option, None, Some, option_map, Contains, All}
 use Rattle.std.specs.FinMap as finite
 use Rattle.amq_model.specs.declared.directory.Control.{Control}
 use Rattle.amq_model.specs.RecordAt.{Spot}
@@ -7,7 +7,7 @@ use Rattle.amq_model.specs.Scan.{IsScan}
 use Rattle.amq_model.specs.Names.{same}
 use Rattle.amq_model.specs.Directory.{FileOf, file_of, SaysControl, data_files, placed}
 use Rattle.amq_model.specs.Files.{FileName, Files, Image, IsImage, IsReading}
-use Rattle.amq_model.specs.Calls.{Call, Part, Outcome, Event, Past, listing, writing, syncing, renaming, fine, no_room, broken, done, partly, content}
+use Rattle.amq_model.specs.Calls.{Call, Part, Outcome, Event, Past, listing, creating, writing, syncing, renaming, fine, no_room, broken, whole, short, absent, done, partly, content}
 
 -- ---- what settles a failed call
 
@@ -15,10 +15,20 @@ use Rattle.amq_model.specs.Calls.{Call, Part, Outcome, Event, Past, listing, wri
 abbrev pub name_before : FileName → FileName → FileName → FileName
 name_before from to n = if same n to then from else n
 
--- the files that were synced since, by their names before a call
+-- without this name
+abbrev pub other_names : FileName → List FileName → List FileName
+other_names n names = filter (λ m. not (same m n)) names
+
+-- The files that were synced since, by their names before a call. A name is that of a file, so it is followed
+-- through renames, and is another file's behind a create, also where those failed and the disk reads them as done.
 abbrev pub synced_since : Call → Outcome → List FileName → List FileName
 synced_since (syncing n) fine names = n ∷ names
+synced_since (creating n len fill) fine names = other_names n names
+synced_since (creating n len fill) (broken whole) names = other_names n names
+synced_since (creating n len fill) (broken (short k)) names = other_names n names
+synced_since (creating n len fill) (broken absent) names = other_names n names
 synced_since (renaming from to) fine names = map (name_before from to) names
+synced_since (renaming from to) (broken whole) names = map (name_before from to) names
 synced_since _ _ names = names
 
 -- Which part a failed call may have done, where the disk reads `part` of it: of a write to a file that was synced

@@ -53,7 +53,7 @@ counts listing (Some c) name = (is_compacted name && named name c.news) || (is_d
 abbrev pub files_by_name : Listing → Option Control → List FileOf
 files_by_name listing c = filter_map (λ f. if nat_le 16 (length f.1) && counts listing c f.0 then Some (file_of f.0 f.1) else None) listing
 
--- behind those of the same id
+-- behind those of a lesser id, before those of the same
 abbrev pub placed_by_id : FileOf → List FileOf → List FileOf
 placed_by_id f [] = f ∷ []
 placed_by_id f (g ∷ gs) = if nat_lt g.id f.id then g ∷ placed_by_id f gs else f ∷ g ∷ gs

@@ -68,7 +68,7 @@ renamed from to s = move_where (map.get s from) from to s
 abbrev pub removed : FileName → Files → Files
 removed n s = map.remove s n
 
--- The bytes are the same outside the pending ranges. A byte is below 256.
+-- The bytes are the same outside the pending ranges, and any bytes inside them. A byte is below 256.
 pub record IsTorn (pending : List Range) (old new : List ℕ) : Type 0 where
   pub len : length new ≡ length old
   pub same : (i : ℕ) → i < length old → (IsPending pending i → ⊥) → slice_index new i ≡ slice_index old i

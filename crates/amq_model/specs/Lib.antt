@@ -9,6 +9,11 @@ pub mod Directory
 pub mod Files
 pub mod Calls
 pub mod Crash
+pub mod Leaves
 pub mod Kept
 pub mod Answers
 pub mod Legal
+pub mod Plain
+pub mod Configs
+pub mod Texts
+pub mod Script

@@ -25,12 +25,12 @@ abbrev pub value_of : List ℕ → ℕ
 value_of digits = fold (λ n d. n * 10 + (d - 48)) 0 digits
 
 -- 1 to 19 digits, at most 2 ^ 63 - 1
-abbrev pub number_of : List ℕ → Option ℕ
-number_of digits = if nat_le 1 (length digits) && nat_le (length digits) 19 && list_all is_digit digits && nat_lt (value_of digits) (2 ^ 63) then Some (value_of digits) else None
+abbrev pub number_spelled : List ℕ → Option ℕ
+number_spelled digits = if nat_le 1 (length digits) && nat_le (length digits) 19 && list_all is_digit digits && nat_lt (value_of digits) (2 ^ 63) then Some (value_of digits) else None
 
 -- the N of a data file's name
 abbrev pub data_number : List ℕ → Option ℕ
-data_number name = option_and_then (λ rest. option_and_then number_of (before (codes ".amq") rest)) (behind (codes "activemq-data-") name)
+data_number name = option_and_then (λ rest. option_and_then number_spelled (before (codes ".amq") rest)) (behind (codes "activemq-data-") name)
 
 -- the name of a data file
 abbrev pub is_data : List ℕ → Bool

@@ -16,6 +16,7 @@ mod law;
 mod name;
 mod record;
 mod refusal;
+mod script;
 mod state;
 
 pub use bytes::Bytes;
@@ -28,6 +29,7 @@ pub use law::effect_grows;
 pub use name::Name;
 pub use record::{Brief, Placed, Record};
 pub use refusal::{DiskCall, Phase, Refusal};
+pub use script::{Keyword, Line, Mode, Said, ScriptCause};
 pub use state::{Entry, EntryEnd, EntryKind, InDoubt, LoadState, OpenTx, Removal};
 
 /// There was no memory. The one answer that has no other cause.

@@ -1,0 +1,5 @@
+pub mod Pieces
+pub mod Noted
+pub mod Played
+pub mod Lines
+pub mod Reloading

@@ -1,0 +1,130 @@
+//! Running the commands of a script on a disk.
+ghost use Rattle.std.specs.Prelude.{◌≡◌, ◌≤◌, [], All, None};
+ghost use Rattle.amq_model.specs.Legal.{AreLegal};
+ghost use Rattle.amq_model.specs.Plain.{IsAddOrDelete};
+ghost use Rattle.amq_model.specs.Leaves.{Told, IsThere};
+ghost use Rattle.amq_engine.specs.Engine.{data_name};
+ghost use Rattle.amq_cli.specs.Offline.{HasRun, HasRunCause, IsReported, defaults, HasRunOn, HasDiskCause};
+ghost use Rattle.amq_cli.specs.Loaded.{content_of};
+ghost use Rattle.amq_cli.specs.Statuses.{status_of, status_of_opening};
+
+use crate::reload::reload;
+use crate::replay::replay;
+use crate::status::{Status, Unbuilt};
+use amq_engine::{Engine, Kept, OpenFailed};
+use amq_io::{Disk, DiskFault};
+use amq_model::{Command, Config, OpenFault, Refusal};
+use amq_print::report;
+use std::alloc::Global;
+
+/// The configuration of a broker that sets nothing.
+const DEFAULTS: Config = Config {
+    file_size: 10_485_760,
+    min_files: 2,
+    pool_files: None,
+    compact_min_files: 10,
+    compact_percentage: 30,
+    buffer_size: 501_760,
+    buffer_timeout: 3,
+    user_version: 0,
+};
+
+/// Opens a journal, gives it the commands, closes it and loads it again. The text gets the lines.
+pub fn run<D: Disk>(
+    alloc: Global,
+    commands: Vec<Command>,
+    disk: D,
+    text: &mut Vec<u8>,
+) -> (Status, D, Kept)
+    requires kinds { All IsAddOrDelete commands.items }
+    requires empty { text.old.items ≡ [] }
+    ensures run { result.0 ≡ Status.Ok → HasRun commands.items text.new.items (D.past disk) (D.past result.1) result.2.base result.2.steps.items }
+    ensures cause { HasRunCause result.0 (D.past disk) (D.past result.1) (D.faults disk) (D.faults result.1) }
+    ensures base { result.2.base ≡ [] }
+    ensures legal { AreLegal result.2.base result.2.steps.items defaults }
+    ensures later { (D.faults disk).0 ≤ (D.faults result.1).0 }
+{
+    let chronicle = Kept::new(alloc);
+    match Engine::open_on(alloc, disk, chronicle, DEFAULTS) {
+        Ok((engine, _state)) => run_on(alloc, engine, commands, text),
+        Err(
+            OpenFailed {
+                disk,
+                chronicle,
+                fault,
+            },
+        ) => (status_of_opening(fault), disk, chronicle),
+    }
+}
+
+/// Gives the commands to an open journal, closes it and loads it again.
+fn run_on<D: Disk>(
+    alloc: Global,
+    mut engine: Engine<D, Kept>,
+    commands: Vec<Command>,
+    text: &mut Vec<u8>,
+) -> (Status, D, Kept)
+    requires kinds { All IsAddOrDelete commands.items }
+    requires empty { text.old.items ≡ [] }
+    requires open { engine.closed ≡ None }
+    requires flushed { engine.durable ≡ engine.appended }
+    requires config { engine.config ≡ defaults }
+    requires begun { (engine.chronicle.base ≡ []) × (engine.chronicle.steps.items ≡ []) }
+    ensures run { result.0 ≡ Status.Ok → HasRunOn commands.items text.new.items (D.past result.1) result.2.base result.2.steps.items }
+    ensures cause { HasDiskCause result.0 (D.faults engine.disk) (D.faults result.1) }
+    ensures base { result.2.base ≡ [] }
+    ensures legal { AreLegal result.2.base result.2.steps.items defaults }
+    ensures later { (D.faults engine.disk).0 ≤ (D.faults result.1).0 }
+{
+    let played = replay(&mut engine, commands, text);
+    let (mut disk, chronicle, closed) = engine.close();
+    let status = match played {
+        Ok(()) => match closed {
+            Ok(_) => add_report(alloc, &mut disk, text),
+            Err(refusal) => status_of_refusal(refusal),
+        },
+        Err(refusal) => status_of_refusal(refusal),
+    };
+    (status, disk, chronicle)
+}
+
+/// Loads the journal that was closed, and adds the report to the text.
+fn add_report<D: Disk>(alloc: Global, disk: &mut D, text: &mut Vec<u8>) -> Status
+    requires there { Told (D.past disk.old) (IsThere data_name) }
+    ensures reported { result ≡ Status.Ok → IsReported text.old.items text.new.items (D.past disk.old) (D.past disk.new) }
+    ensures cause { HasDiskCause result (D.faults disk.old) (D.faults disk.new) }
+    ensures later { (D.faults disk.old).0 ≤ (D.faults disk.new).0 }
+{
+    let state = match reload(alloc, disk) {
+        Ok(state) => state,
+        Err(DiskFault::Disk(_)) => return Status::DiskFault,
+        Err(DiskFault::NoMemory) => return Status::NoMemory,
+    };
+    match report(alloc, &state) {
+        Ok(lines) if text.extend_from_slice(&lines).is_ok() => Status::Ok,
+        _ => Status::NoMemory,
+    }
+}
+
+/// How a run ends whose journal was refused a command or its flush.
+fn status_of_refusal(refusal: Refusal) -> Status
+    ensures { result ≡ status_of refusal }
+{
+    match refusal {
+        Refusal::Disk { .. } => Status::DiskFault,
+        _ => Status::NoMemory,
+    }
+}
+
+/// How a run ends whose journal wasn't opened.
+fn status_of_opening(fault: OpenFault) -> Status
+    ensures { result ≡ status_of_opening fault }
+{
+    match fault {
+        OpenFault::Disk { .. } => Status::DiskFault,
+        OpenFault::NoMemory => Status::NoMemory,
+        _ => Status::NotBuilt {
+            part: Unbuilt::Directory,
+        },
+    }
+}

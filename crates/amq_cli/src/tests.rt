@@ -1,0 +1,236 @@
+ghost use Rattle.std.specs.Prelude.{◌≡◌, ◌≤◌};
+
+use crate::{Status, Unbuilt, offline};
+use amq_io::{Disk, MemoryDisk, MemorySink, MemorySource};
+use amq_model::Name;
+use std::alloc::Global;
+use std::test::Fail;
+
+const DATA_FILE: &str = "activemq-data-1.amq";
+
+const WORDS: &[&str] = &["folder", "replay"];
+
+const SCRIPT: &[u8] = b"add 1 7 6869\nadd 1 7 -\ndelete 2\n";
+
+const TEXT: &[u8] =
+    b"ok 0\nrefused AlreadyLive 1\nrefused NoRecord 2\nlive 1\nadd 1 7 6869\nin doubt 0\n";
+
+/// What a run left.
+#[derive(Drop)]
+struct Left {
+    status: Status,
+    disk: MemoryDisk,
+    text: Vec<u8>,
+}
+
+/// Which calls are to fail, counted from 1, and how many bytes a stream moves a call.
+#[derive(Clone, Copy, Debug)]
+struct Streams {
+    piece: u64,
+    source: u64,
+    sink: u64,
+}
+
+/// No call fails.
+const WHOLE: Streams = Streams {
+    piece: 4096,
+    source: 0,
+    sink: 0,
+};
+
+fn run(
+    alloc: Global,
+    words: &[&str],
+    script: &[u8],
+    disk: MemoryDisk,
+    streams: &Streams,
+) -> Result<Left, Fail>
+    requires { 1 ≤ streams.now.piece }
+{
+    let script = Vec::from_slice(alloc, script)?;
+    let mut source = MemorySource::new(script, streams.piece, vec![in alloc; streams.source]?);
+    let mut sink = MemorySink::new(alloc, streams.piece, vec![in alloc; streams.sink]?);
+    let (status, disk, _kept) = offline(alloc, words, disk, &mut source, &mut sink);
+    let text = Vec::from_slice(alloc, sink.bytes())?;
+    Ok(Left { status, disk, text })
+}
+
+fn replay(alloc: Global, script: &[u8]) -> Result<Left, Fail> {
+    run(alloc, WORDS, script, MemoryDisk::new(alloc)?, &WHOLE)
+}
+
+/// An empty disk whose call of this number fails.
+fn failing(alloc: Global, call: u64) -> Result<MemoryDisk, Fail> {
+    let disk = MemoryDisk::failing(alloc, Vec::new(alloc), vec![in alloc; call]?)?;
+    Ok(disk)
+}
+
+#[test]
+fn an_add_and_its_delete(rt: HostRuntime) -> Result<(), Fail> {
+    let left = replay(rt.alloc(), b"add 1 7 6869\ndelete 1\n")?;
+    assert_eq!(rt; left.status, Status::Ok);
+    assert_eq!(rt; left.status.code(), 0);
+    assert_eq!(rt;
+        left.text.as_slice(),
+        b"ok 0\nok 1\nlive 0\nin doubt 0\n".as_slice()
+    );
+    let file = left.disk.look(DATA_FILE)?.ok_or("no file")?;
+    assert_eq!(rt; file.len(), 10_485_760);
+    let delete = b"\x10\x00\x00\x00\x01\x00\x00\x00\x00\x00\x00\x00\x00\x01\x00\x00\x00\x12";
+    assert_eq!(rt; file.as_slice().get(41..59), Some(delete.as_slice()));
+    assert!(rt; file.iter().skip(59).all(|byte| *byte == 0x4a));
+    Ok(())
+}
+
+#[test]
+fn refusals_have_their_lines(rt: HostRuntime) -> Result<(), Fail> {
+    let left = replay(rt.alloc(), SCRIPT)?;
+    assert_eq!(rt; left.status, Status::Ok);
+    assert_eq!(rt; left.text.as_slice(), TEXT);
+    Ok(())
+}
+
+#[test]
+fn lines_without_words_are_passed_over(rt: HostRuntime) -> Result<(), Fail> {
+    let left = replay(
+        rt.alloc(),
+        b"\n# nothing\n   \nadd 1 7 6869\n\n  delete   1  ",
+    )?;
+    assert_eq!(rt; left.status, Status::Ok);
+    assert_eq!(rt;
+        left.text.as_slice(),
+        b"ok 0\nok 1\nlive 0\nin doubt 0\n".as_slice()
+    );
+    let left = replay(rt.alloc(), b"")?;
+    assert_eq!(rt; left.status, Status::Ok);
+    assert_eq!(rt; left.text.as_slice(), b"live 0\nin doubt 0\n".as_slice());
+    Ok(())
+}
+
+/// Nothing is written, and no call of the disk is made.
+#[test]
+fn what_is_not_built_is_left_alone(rt: HostRuntime) -> Result<(), Fail> {
+    let alloc = rt.alloc();
+    let scripts: [&[u8]; 5] = [
+        b"flush\n",
+        b"add 1 7 6869\nupdate 1 7 -\n",
+        b"add 1 7\n",
+        b"add 1 7 6",
+        b"\xff\n",
+    ];
+    for script in scripts {
+        let left = replay(alloc, script)?;
+        let part = Unbuilt::Script;
+        assert_eq!(rt; left.status, Status::NotBuilt { part });
+        assert_eq!(rt; left.status.code(), 12);
+        assert_eq!(rt; left.disk.moment(), 0);
+        assert!(rt; left.text.is_empty());
+    }
+    let all_words: [&[&str]; 5] = [
+        &[],
+        &["folder"],
+        &["folder", "print"],
+        &["-folder", "replay"],
+        &["folder", "replay", "replay"],
+    ];
+    for words in all_words {
+        let left = run(alloc, words, SCRIPT, MemoryDisk::new(alloc)?, &WHOLE)?;
+        let part = Unbuilt::Words;
+        assert_eq!(rt; left.status, Status::NotBuilt { part });
+        assert_eq!(rt; left.disk.moment(), 0);
+        assert!(rt; left.text.is_empty());
+    }
+    Ok(())
+}
+
+#[test]
+fn a_directory_with_a_file_is_left_alone(rt: HostRuntime) -> Result<(), Fail> {
+    let alloc = rt.alloc();
+    let name = Name::of(alloc, "other")?.ok_or("no name")?;
+    let files = vec![in alloc; (name, vec![in alloc; 1]?)]?;
+    let disk = MemoryDisk::of_files(alloc, files)?;
+    let left = run(alloc, WORDS, SCRIPT, disk, &WHOLE)?;
+    let part = Unbuilt::Directory;
+    assert_eq!(rt; left.status, Status::NotBuilt { part });
+    assert_eq!(rt; left.disk.moment(), 1);
+    assert!(rt; left.text.is_empty());
+    Ok(())
+}
+
+#[test]
+fn streams_that_move_a_byte_a_call(rt: HostRuntime) -> Result<(), Fail> {
+    let alloc = rt.alloc();
+    let streams = Streams {
+        piece: 1,
+        source: 0,
+        sink: 0,
+    };
+    let left = run(alloc, WORDS, SCRIPT, MemoryDisk::new(alloc)?, &streams)?;
+    assert_eq!(rt; left.status, Status::Ok);
+    assert_eq!(rt; left.text.as_slice(), TEXT);
+    Ok(())
+}
+
+/// The script has 32 bytes, so the source is read five times.
+#[test]
+fn a_source_that_fails(rt: HostRuntime) -> Result<(), Fail> {
+    let alloc = rt.alloc();
+    for source in 1..=5 {
+        let streams = Streams {
+            piece: 8,
+            source,
+            sink: 0,
+        };
+        let left = run(alloc, WORDS, SCRIPT, MemoryDisk::new(alloc)?, &streams)?;
+        assert_eq!(rt; left.status, Status::SourceFault);
+        assert_eq!(rt; left.status.code(), 4);
+        assert_eq!(rt; left.disk.moment(), 0);
+        assert!(rt; left.text.is_empty());
+    }
+    Ok(())
+}
+
+/// The text has 79 bytes, so the sink is given it in five pieces.
+#[test]
+fn a_sink_that_fails(rt: HostRuntime) -> Result<(), Fail> {
+    let alloc = rt.alloc();
+    for sink in 1..=5 {
+        let streams = Streams {
+            piece: 16,
+            source: 0,
+            sink,
+        };
+        let left = run(alloc, WORDS, SCRIPT, MemoryDisk::new(alloc)?, &streams)?;
+        assert_eq!(rt; left.status, Status::SinkFault);
+        assert_eq!(rt; left.status.code(), 5);
+        assert_eq!(rt; left.text.len() as u64, (sink - 1) * 16);
+        assert!(rt; TEXT.starts_with(&left.text));
+    }
+    Ok(())
+}
+
+/// The calls are those of opening, a write and a sync for each append, and the read at the end.
+#[test]
+fn a_disk_that_fails(rt: HostRuntime) -> Result<(), Fail> {
+    let alloc = rt.alloc();
+    let texts: [&[u8]; 10] = [
+        b"",
+        b"",
+        b"",
+        b"",
+        b"",
+        b"ok 0\nrefused Disk WriteAt\n",
+        b"ok 0\nrefused Disk Sync\n",
+        b"ok 0\nok 1\nrefused Disk WriteAt\n",
+        b"ok 0\nok 1\nrefused Disk Sync\n",
+        b"ok 0\nok 1\n",
+    ];
+    for (i, text) in texts.into_iter().enumerate() {
+        let disk = failing(alloc, i as u64 + 1)?;
+        let left = run(alloc, WORDS, b"add 1 7 6869\ndelete 1\n", disk, &WHOLE)?;
+        assert_eq!(rt; left.status, Status::DiskFault);
+        assert_eq!(rt; left.status.code(), 6);
+        assert_eq!(rt; left.text.as_slice(), text);
+    }
+    Ok(())
+}

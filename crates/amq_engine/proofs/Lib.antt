@@ -1,0 +1,10 @@
+pub mod Preparing
+pub mod Putting
+pub mod Texts
+pub mod Steps
+pub mod Receipts
+pub mod History
+pub mod Sound
+pub mod Begun
+pub mod Commands
+pub mod Closed

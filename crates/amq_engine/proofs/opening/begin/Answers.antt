@@ -1,0 +1,40 @@
+use Rattle.std.proofs.Common.{◌≡◌, ◌≤◌, ℕ, List, [], length, sym, ap, subst, ◌∙◌, arith, rules}
+use Rattle.std.specs.Prelude.{vec_len, option_map}
+use Rattle.std.proofs.lemmas.Bool.{eqb-true, eqb-false}
+use Rattle.std.proofs.lemmas.List.{nil_from_length}
+use Rattle.amq_model.specs.Leaves.{Leaves}
+use Rattle.amq_engine.specs.Lists.{with_base, with_receipt}
+use Rattle.amq_engine.specs.Prepare.{Prepares, Prepared}
+use Rattle.amq_engine.specs.Engine.{data_name, temporary_name}
+use Rattle.amq_engine.proofs.Begun.{empty_told, some_told, begun_is}
+use Rattle.amq_engine.proofs.Commands.{when_ok}
+use Rattle.amq_engine.proofs.opening.begin.Goals as goal
+
+pub returns-then-not-is_empty-clause-cause : goal.returns-then-not-is_empty-clause-cause
+returns-then-not-is_empty-clause-cause g c =
+    let len_is : vec_len c.in-Ok.infos ≡ length c.in-Ok.infos.items = search rules in
+    let some : vec_len c.in-Ok.infos ≡ 0 → ⊥ = eqb-false _ _ (sym c.if-not-is_empty.ensures) in
+    (c.in-Ok.ensures.note, some_told c.in-Ok.infos.items (g.D.Disk.past c.args.disk.now) (λ none. some (len_is ∙ ap length none)) c.in-Ok.ensures.listed)
+
+pub returns-in-Ok-prepare-clause-begun : goal.returns-in-Ok-prepare-clause-begun
+returns-in-Ok-prepare-clause-begun g c =
+    let past = g.D.Disk.past in
+    let lists = g.C.Chronicle.lists in
+    let room = g.C.Chronicle.receipt_room in
+    let config = c.args.config.now in
+    let none_len : vec_len c.in-Ok.infos ≡ 0 = eqb-true _ _ (sym c.if-not-is_empty.ensures) in
+    let len_is : vec_len c.in-Ok.infos ≡ length c.in-Ok.infos.items = search rules in
+    let none : c.in-Ok.infos.items ≡ [] = nil_from_length c.in-Ok.infos.items (sym len_is ∙ none_len) in
+    let P : List ℕ → Type 0 = λ h. Leaves (Prepares temporary_name data_name config.file_size 74 h) (Prepared temporary_name data_name config.file_size 74 h) (past c.list.new.disk) (past c.prepare.new.disk) in
+    let went = subst P c.header-header.ensures c.in-Ok-prepare.ensures.ok in
+    let two : 2 ≤ room c.room.new.self = when_ok c.room.result (2 ≤ room c.room.new.self) (sym c.is_err.ensures.value ∙ c.if-is_err.false) c.room.ensures.receipt in
+    let based : lists c.base.new.self ≡ option_map (with_base []) (lists c.room.new.self) = search rules in
+    let noted : lists c.receipt.new.self ≡ option_map (with_receipt 0 c.moment-moment.result) (option_map (with_base []) (lists c.args.chronicle.now)) = cc in
+    begun_is config (omega (arith, c.requires.config.file_size_least)) c.in-Ok.infos.items (past c.args.disk.now) (past c.list.new.disk) (past c.prepare.new.disk) none c.in-Ok.ensures.listed c.in-Ok.ensures.note went
+    c.moment-moment.result c.moment-moment.ensures.told (lists c.args.chronicle.now) (lists c.receipt.new.self) (room c.receipt.new.self) c.requires.blank noted (omega (arith, two, c.base.ensures.receipts, c.receipt.ensures.receipts))
+
+pub returns-in-Ok-prepare-clause-empty : goal.returns-in-Ok-prepare-clause-empty
+returns-in-Ok-prepare-clause-empty g c =
+    let none_len : vec_len c.in-Ok.infos ≡ 0 = eqb-true _ _ (sym c.if-not-is_empty.ensures) in
+    let len_is : vec_len c.in-Ok.infos ≡ length c.in-Ok.infos.items = search rules in
+    empty_told c.in-Ok.infos.items (g.D.Disk.past c.args.disk.now) (nil_from_length c.in-Ok.infos.items (sym len_is ∙ none_len)) c.in-Ok.ensures.listed

@@ -1,0 +1,255 @@
+-- What clauses see of an engine, and what is always so of one.
+use Rattle.std.specs.Prelude.{◌≡◌, ◌⊎◌, ◌↔◌, ℕ, ◌+◌, ◌-◌, ◌^◌, ◌<◌, ◌≤◌, Bool, true, false, ◌||◌, nat_lt, ◌==◌, if◌then◌else◌, List, [], ◌∷◌, ◌++◌, length, take, drop, map, codes, Option, None, Some, option_map, Result, Ok, Err, is_ok, not, ◌&&◌, IfSome, All, refl}
+use Rattle.std.specs.Ordering.{nat_cmp}
+use Rattle.std.specs.BTreeSet.{BTreeSet, contains}
+use Rattle.std.specs.Coded.{Coded, code_by, coded×, coded_ℕ, coded_option}
+use Rattle.amq_model.specs.declared.record.Record.{Record}
+use Rattle.amq_model.specs.declared.record.Placed.{Placed}
+use Rattle.amq_model.specs.declared.command.Command.{Command}
+use Rattle.amq_model.specs.declared.command.Command.TheVariants as c
+use Rattle.amq_model.specs.declared.command.Reply.{Reply}
+use Rattle.amq_model.specs.declared.config.Config.{Config}
+use Rattle.amq_model.specs.declared.history.Answer.{Answer}
+use Rattle.amq_model.specs.declared.history.Answer.TheVariants.{Done, Refused}
+use Rattle.amq_model.specs.declared.history.Step.{Step}
+use Rattle.amq_model.specs.declared.refusal.DiskCall.{DiskCall}
+use Rattle.amq_model.specs.declared.refusal.DiskCall.TheVariants as calls
+use Rattle.amq_model.specs.declared.refusal.Refusal.{Refusal}
+use Rattle.amq_model.specs.declared.refusal.Refusal.TheVariants as r
+use Rattle.amq_model.specs.RecordAt.{len_of}
+use Rattle.amq_model.specs.declared.directory.OpenFault.{OpenFault}
+use Rattle.amq_model.specs.declared.directory.OpenFault.TheVariants as o
+use Rattle.amq_model.specs.Calls.{Past, listing, fine, noted}
+use Rattle.amq_model.specs.Files.{FileName, Files}
+use Rattle.amq_model.specs.Leaves.{AllReads, HoldsSince, Told}
+use Rattle.amq_model.specs.Answers.{record_of, history_of, in_view, too_large, first_some}
+use Rattle.amq_model.specs.Legal.{AreLegal}
+use Rattle.amq_model.specs.Plain.{IsPlain}
+use Rattle.amq_scan.specs.Written.{Item, IsItem, spelled, end_from}
+use Rattle.amq_engine.specs.declared.chronicle.Receipted.{Receipted}
+use Rattle.amq_io.specs.Cause.{Rose, Faults}
+use Rattle.amq_io.specs.declared.faults.DiskFault.{DiskFault}
+use Rattle.amq_io.specs.declared.faults.DiskFault.TheVariants as f
+use Rattle.amq_engine.specs.Lists.{Lists, with_step, with_receipt}
+use Rattle.amq_engine.specs.OneFile.{header_of, placed_in, Holds, IsFresh, IsEmpty}
+
+-- ---- the value
+
+-- a disk call, as a number
+abbrev pub call_number : DiskCall → ℕ
+call_number calls.List = 0
+call_number calls.Read = 1
+call_number calls.Create = 2
+call_number calls.WriteAt = 3
+call_number calls.Sync = 4
+call_number calls.Rename = 5
+call_number calls.Remove = 6
+
+abbrev pub numbered_call : ℕ → DiskCall
+numbered_call n =
+    if n == 0 then calls.List else (if n == 1 then calls.Read else (if n == 2 then calls.Create else (if n == 3 then calls.WriteAt else (if n == 4 then calls.Sync else (if n == 5 then calls.Rename else calls.Remove)))))
+
+abbrev pub call_back : (call : DiskCall) → numbered_call (call_number call) ≡ call
+call_back calls.List = refl
+call_back calls.Read = refl
+call_back calls.Create = refl
+call_back calls.WriteAt = refl
+call_back calls.Sync = refl
+call_back calls.Rename = refl
+call_back calls.Remove = refl
+
+abbrev pub call_code : Coded DiskCall
+call_code = code_by ℕ coded_ℕ call_number numbered_call call_back
+
+-- eight numbers
+abbrev pub Eight : Type 0
+Eight = ℕ × (ℕ × (Option ℕ × (ℕ × (ℕ × (ℕ × (ℕ × ℕ))))))
+
+abbrev pub config_code : Coded Config
+config_code =
+    code_by Eight (coded× coded_ℕ (coded× coded_ℕ (coded× (coded_option coded_ℕ) (coded× coded_ℕ (coded× coded_ℕ (coded× coded_ℕ (coded× coded_ℕ coded_ℕ)))))))
+    (λ c. (c.file_size, (c.min_files, (c.pool_files, (c.compact_min_files, (c.compact_percentage, (c.buffer_size, (c.buffer_timeout, c.user_version))))))))
+    (λ p. record { file_size = p.0; min_files = p.1.0; pool_files = p.1.1.0; compact_min_files = p.1.1.1.0; compact_percentage = p.1.1.1.1.0; buffer_size = p.1.1.1.1.1.0; buffer_timeout = p.1.1.1.1.1.1.0; user_version = p.1.1.1.1.1.1.1 })
+    (λ _. refl)
+
+-- what clauses see of an engine: its disk and chronicle, the parameters, how many appends there were, how many of them are durable, and the call after which it is closed
+pub record EngineOf (D C : Type 0) : Type 0 where
+  pub disk : D
+  pub chronicle : C
+  pub config : Config
+  pub appended : ℕ
+  pub durable : ℕ
+  pub closed : Option DiskCall
+
+abbrev pub engine_code : {D C : Type 0} → Coded D → Coded C → Coded (EngineOf D C)
+engine_code {D} {C} d c =
+    code_by (D × (C × (Config × (ℕ × (ℕ × Option DiskCall))))) (coded× d (coded× c (coded× config_code (coded× coded_ℕ (coded× coded_ℕ (coded_option call_code))))))
+    (λ e. (e.disk, (e.chronicle, (e.config, (e.appended, (e.durable, e.closed))))))
+    (λ p. record { disk = p.0; chronicle = p.1.0; config = p.1.1.0; appended = p.1.1.1.0; durable = p.1.1.1.1.0; closed = p.1.1.1.1.1 })
+    (λ _. refl)
+
+-- ---- what is always so
+
+-- the data file's name, and the name under which it is prepared
+abbrev pub data_name : FileName
+data_name = codes "activemq-data-1.amq"
+
+abbrev pub temporary_name : FileName
+temporary_name = codes "activemq-data-1.amq.tmp"
+
+-- an add, update or delete outside transactions, as it is written first
+pub record IsPlainItem (x : Item) : Type 0 where
+  pub item : IsItem 2 x
+  pub plain : IsPlain x.rec
+  pub first : x.compact ≡ 0
+
+-- what each reading holds of a history of which so many records are durable: the one file, or, before the first, none
+abbrev pub MayHold : Config → ℕ → List Item → Files → Type 0
+MayHold config sure history s =
+    Holds data_name (header_of config.user_version 1) 1 config.file_size sure history s ⊎ ((sure ≡ 0) × IsFresh temporary_name s)
+
+-- each receipt is kept: since its moment every reading holds as many records
+abbrev pub AreKept : Option Past → Config → ℕ → List Item → List Receipted → Type 0
+AreKept past config durable history [] = Unit {0}
+AreKept past config durable history (q ∷ qs) =
+    ((q.durable ≤ durable) × (q.moment < 2 ^ 64 - 1 → HoldsSince past q.moment (MayHold config q.durable history))) × AreKept past config durable history qs
+
+-- The chronicle's history is that of the engine, its steps are legal, and its receipts are kept.
+pub record IsTold (past : Option Past) (config : Config) (durable : ℕ) (history : List Item) (l : Lists) : Type 0 where
+  pub base : l.base ≡ []
+  pub steps : history_of l.steps ≡ placed_in 1 history
+  pub legal : AreLegal l.base l.steps config
+  pub kept : AreKept past config durable history l.receipts
+
+pub record IsSound (past : Option Past) (lists : Option Lists) (receipt_room : ℕ) (config : Config) (live : BTreeSet ℕ) (buffer : List ℕ) (end appended durable : ℕ) : Type 0 where
+  pub history : List Item
+  pub items : All IsPlainItem history
+  pub size_least : 64 ≤ config.file_size
+  pub size_most : config.file_size ≤ 268435456
+  pub count : appended ≡ length history
+  pub most : durable ≤ appended
+  pub ids : (id : ℕ) → contains nat_cmp live id ≡ in_view (placed_in 1 history) None id
+  pub reads_now : AllReads past (Holds data_name (header_of config.user_version 1) 1 config.file_size durable history)
+  pub buffered : buffer ≡ spelled 2 1 (drop durable history)
+  pub place : end ≡ end_from 2 16 (take durable history)
+  pub fits : end + length buffer ≤ config.file_size
+  pub room : (buffer ≡ [] → ⊥) → 1 ≤ receipt_room
+  pub told : IfSome lists (IsTold past config durable history)
+
+-- ---- commands
+
+-- the id of an add or delete
+abbrev pub command_id : Command → ℕ
+command_id (c.Add id user_type body) = id
+command_id (c.Delete id) = id
+command_id _ = 0
+
+-- the length of its record
+abbrev pub command_len : Command → ℕ
+command_len (c.Add id user_type body) = 23 + length body
+command_len (c.Delete id) = 18
+command_len _ = 0
+
+-- whether an id is live after it, if it was before
+abbrev pub is_live_after : Command → ℕ → Bool → Bool
+is_live_after (c.Add id user_type body) q before = before || id == q
+is_live_after (c.Delete id) q before = if id == q then false else before
+is_live_after _ q before = before
+
+-- refusals 6 and 7, where it is known whether the id is live
+abbrev pub id_refused : Bool → Command → Option Refusal
+id_refused is_live (c.Add id user_type body) = if is_live then Some (r.AlreadyLive id) else None
+id_refused is_live (c.Delete id) = if is_live then None else Some (r.NoRecord id)
+id_refused is_live _ = None
+
+-- the file's rest is shorter than the record
+abbrev pub full : Config → ℕ → Command → Option Refusal
+full config end command = elim (record_of command 0) [ None ↦ None | Some rec ↦ (if nat_lt (config.file_size - end) (len_of rec) then Some (r.FileFull (len_of rec) (config.file_size - end)) else None) ]
+
+-- the refusal of an add or delete where the last append ends at `end`
+abbrev pub refused : Config → Bool → ℕ → Command → Option Refusal
+refused config is_live end command = first_some (too_large config command ∷ id_refused is_live command ∷ full config end command ∷ [])
+
+-- a refusal that depends on the command, of an engine that takes adds and deletes
+abbrev pub IsCommandRefusal : Refusal → Type 0
+IsCommandRefusal (r.TooLarge len limit) = Unit {0}
+IsCommandRefusal (r.AlreadyLive id) = Unit {0}
+IsCommandRefusal (r.NoRecord id) = Unit {0}
+IsCommandRefusal (r.FileFull len left) = Unit {0}
+IsCommandRefusal _ = ⊥
+
+-- a refusal of a command: for the command, or since the engine is closed, or for want of memory
+abbrev pub IsCommandAnswer : Refusal → Type 0
+IsCommandAnswer (r.Closed fault) = Unit {0}
+IsCommandAnswer r.NoMemory = Unit {0}
+IsCommandAnswer refusal = IsCommandRefusal refusal
+
+-- the answer that is noted
+abbrev pub answer_of : Result Reply Refusal → Answer
+answer_of (Ok reply) = Done reply
+answer_of (Err refusal) = Refused refusal
+
+-- whether a step is noted: not where the engine is closed, becomes so, or had no memory
+abbrev pub is_noted : Result Reply Refusal → Bool
+is_noted (Err (r.Closed fault)) = false
+is_noted (Err (r.Disk call)) = false
+is_noted (Err r.NoMemory) = false
+is_noted _ = true
+
+-- The chronicle has one step more, with this answer, or is as it was.
+pub record Notes (seat number : ℕ) (command : Command) (result : Result Reply Refusal) (old new : Option Lists) : Type 0 where
+  pub placed : Option Placed
+  pub is : new ≡ (if is_noted result then option_map (with_step (record { seat = seat; number = number; command = command; answer = answer_of result; placed = placed })) old else old)
+
+-- ---- other calls
+
+-- a refusal for a disk call comes only where the count of faults rose, and names the call that failed last
+abbrev pub HasCause : {T : Type 0} → Result T Refusal → Faults → Faults → Type 0
+HasCause (Err (r.Disk call)) old new = Rose old.0 new.0 × (new.1 ≡ Some call)
+HasCause _ old new = Unit {0}
+
+-- the call after which the engine is closed, behind this answer
+abbrev pub closed_after : {T : Type 0} → Result T Refusal → Option DiskCall → Option DiskCall
+closed_after (Err (r.Disk call)) closed = Some call
+closed_after _ closed = closed
+
+-- whether a flush made something durable
+abbrev pub is_flushed : Result ℕ Refusal → ℕ → ℕ → Bool
+is_flushed result appended durable = is_ok result && not (durable == appended)
+
+-- the chronicle behind a flush: one receipt more, of all appends at this moment, where something became durable
+abbrev pub receipted : Bool → ℕ → ℕ → Option Lists → Option Lists
+receipted flushed appended moment lists = if flushed then option_map (with_receipt appended moment) lists else lists
+
+-- the lists of an opening that has begun: nothing was there, nothing is done, and one receipt of nothing
+pub record AreBegun (moment : ℕ) (l : Lists) : Type 0 where
+  pub base : l.base ≡ []
+  pub steps : l.steps ≡ []
+  pub receipts : l.receipts ≡ record { durable = 0; moment = moment } ∷ []
+
+-- what an opening leaves: the one file, without records, and the chronicle begun
+pub record IsBegun (past : Option Past) (lists : Option Lists) (receipt_room : ℕ) (config : Config) : Type 0 where
+  pub reads_now : AllReads past (Holds data_name (header_of config.user_version 1) 1 config.file_size 0 [])
+  pub room : 1 ≤ receipt_room
+  pub told : IfSome lists (IsTold past config 0 [])
+
+-- nothing is told yet
+abbrev pub IsBlank : Lists → Type 0
+IsBlank l = (l.base ≡ []) × (l.steps ≡ []) × (l.receipts ≡ [])
+
+-- what an opening that failed leaves in the chronicle: no base and no step
+abbrev pub IsUnopened : Lists → Type 0
+IsUnopened l = (l.base ≡ []) × (l.steps ≡ [])
+
+-- why an opening failed: a file was there, which only the list was asked for; a disk call; or want of memory
+abbrev pub HasOpenCause : OpenFault → Option Past → Option Past → Faults → Faults → Type 0
+HasOpenCause o.NotBuilt old new was now = (new ≡ option_map (noted listing fine) old) × Told old (λ s. IsEmpty s → ⊥)
+HasOpenCause (o.Disk call) old new was now = Rose was.0 now.0 × (now.1 ≡ Some call)
+HasOpenCause o.NoMemory old new was now = Unit {0}
+HasOpenCause (o.Directory fault) old new was now = ⊥
+HasOpenCause (o.FileIdsSpent highest) old new was now = ⊥
+
+-- a disk's fault, as that of an opening
+abbrev pub open_fault : DiskFault → OpenFault
+open_fault (f.Disk call) = o.Disk call
+open_fault f.NoMemory = o.NoMemory

@@ -1,0 +1,6 @@
+pub mod Logs
+pub mod Lists
+pub mod OneFile
+pub mod Prepare
+pub mod Puts
+pub mod Engine

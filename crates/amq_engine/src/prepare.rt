@@ -1,0 +1,35 @@
+//! Making a file that is whole and durable before it has its name.
+ghost use Rattle.std.specs.Prelude.{◌≡◌, ◌≢◌, ◌≤◌, length, OnOk};
+ghost use Rattle.amq_model.specs.Name.{HasNameForm};
+ghost use Rattle.amq_model.specs.Leaves.{Leaves};
+ghost use Rattle.amq_io.specs.Faults.{HasFault};
+ghost use Rattle.amq_engine.specs.Prepare.{Prepares, Prepared};
+
+use amq_io::{Disk, DiskFault, faults};
+
+/// The byte with which a new file is filled.
+pub const FILLING: u8 = 0x4a;
+
+/// Makes a file of this name and length with this header, filled behind it, in four disk calls: create
+/// under the temporary name, header, sync, rename.
+pub fn prepare<D: Disk>(
+    disk: &mut D,
+    temporary: &str,
+    name: &str,
+    len: u64,
+    header: &[u8],
+) -> Result<(), DiskFault>
+    requires temporary_form { HasNameForm temporary.now }
+    requires name_form { HasNameForm name.now }
+    requires differ { temporary.now ≢ name.now }
+    requires fits { length header.now ≤ len }
+    ensures crash { Leaves (Prepares temporary.now name.now len 74 header.now) (Prepares temporary.now name.now len 74 header.now) (D.past disk.old) (D.past disk.new) }
+    ensures ok { OnOk result (Leaves (Prepares temporary.now name.now len 74 header.now) (Prepared temporary.now name.now len 74 header.now) (D.past disk.old) (D.past disk.new)) }
+    ensures cause { HasFault result (D.faults disk.old) (D.faults disk.new) }
+{
+    faults::create(disk, temporary, len, FILLING)?;
+    faults::write_at(disk, temporary, 0, header)?;
+    faults::sync(disk, temporary)?;
+    faults::rename(disk, temporary, name)?;
+    Ok(())
+}

@@ -1,0 +1,42 @@
+-- What one call of a disk leaves, by what it answered.
+use Rattle.std.proofs.Common.{◌≡◌, inl, inr, Option, None, Some, Result, Ok, Err, refl, subst}
+use Rattle.amq_model.specs.Files.{Files}
+use Rattle.amq_model.specs.Calls.{Call, Part, Past, fine, no_room, broken, done, partly, noted, passed}
+use Rattle.amq_model.specs.Leaves.{Leaves, Within, Exactly}
+use Rattle.amq_model.proofs.Moments.{one, none, go_on}
+use Rattle.amq_io.specs.Notes.{Notes}
+use Rattle.amq_io.specs.declared.disk.DiskError.{DiskError}
+use Rattle.amq_io.specs.declared.disk.DiskError.TheVariants.{Failed, NoMemory}
+
+-- how a call ended, as its answer tells
+abbrev pub Ended : {T : Type 0} → Call → Result T DiskError → Files → Files → Type 0
+Ended call (Ok x) o s = s ≡ done call o
+Ended call (Err NoMemory) o s = s ≡ o
+Ended call (Err Failed) o s = (other : Part) × (s ≡ partly call other o)
+
+-- what one call of a disk leaves, whatever it answers
+pub called : {T : Type 0} (call : Call) (result : Result T DiskError) (old new : Option Past) → Notes call result old new → Leaves (Within call) (Ended call result) old new
+called call (Ok x) None new notes = notes
+called call (Err NoMemory) None new (inl notes) = notes
+called call (Err NoMemory) None new (inr notes) = notes
+called call (Err Failed) None new notes = notes.1
+called call (Ok x) (Some p) new notes = (noted call fine p, notes, one call fine p)
+called {T = T} call (Err NoMemory) (Some p) new (inl notes) = (passed p, notes, none (Within call) (Ended {T = T} call (Err NoMemory)) p (λ s. refl))
+called call (Err NoMemory) (Some p) new (inr notes) = (noted call no_room p, notes, one call no_room p)
+called call (Err Failed) (Some p) new notes = (noted call (broken notes.0) p, notes.1, one call (broken notes.0) p)
+
+-- how it ended is one of the moments of it
+pub ended_within : {T : Type 0} (call : Call) (result : Result T DiskError) (o s : Files) → Ended call result o s → Within call o s
+ended_within call (Ok x) o s e = inr (inl e)
+ended_within call (Err NoMemory) o s e = inl e
+ended_within call (Err Failed) o s e = inr (inr e)
+
+-- one more call behind a chain of them, whatever it answers
+pub at_last : {T : Type 0} (I : Files → Files → Type 0) (f : Files → Files) (call : Call) (result : Result T DiskError) (a b c : Option Past) → Leaves I (Exactly f) a b → Notes call result b c
+    → ((o s : Files) → Within call (f o) s → I o s) → Leaves I I a c
+at_last I f call result a b c so_far notes here =
+    go_on {I = I} {J = Within call} {K = I} {E = Exactly f} {F = Ended call result} {G = I} a b c
+    (λ o s i. i)
+    (λ o m s e w. here o s (subst (λ m. Within call m s) e w))
+    (λ o m s e w. here o s (subst (λ m. Within call m s) e (ended_within call result m s w)))
+    so_far (called call result b c notes)

@@ -1,0 +1,7 @@
+pub mod Called
+pub mod Ordered
+pub mod Pieces
+pub mod Places
+pub mod Recorded
+pub mod Starting
+pub mod Tearing

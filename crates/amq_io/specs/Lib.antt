@@ -1,0 +1,9 @@
+pub mod Cause
+pub mod Entries
+pub mod Faults
+pub mod Listed
+pub mod Listing
+pub mod MemoryDisk
+pub mod Notes
+pub mod Streams
+pub mod Torn

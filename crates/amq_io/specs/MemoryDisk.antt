@@ -1,0 +1,50 @@
+-- What a disk in memory stands for: its record of calls.
+use Rattle.std.specs.Prelude.{◌≡◌, ◌≢◌, ℕ, Bool, true, false, List, [], ◌∷◌, Option, None, Some, All}
+use Rattle.std.specs.FinMap as finite
+use Rattle.amq_model.specs.declared.refusal.DiskCall.{DiskCall}
+use Rattle.amq_model.specs.Files.{FileName, File, Files}
+use Rattle.amq_model.specs.Calls.{Outcome, fine, broken, undone, Past, Event, content}
+use Rattle.amq_io.specs.declared.asked.PastCall.{PastCall}
+use Rattle.amq_io.specs.Entries.{call_of}
+
+-- a call that was made to fail did nothing
+abbrev pub outcome_of : Bool → Outcome
+outcome_of true = broken undone
+outcome_of false = fine
+
+-- a call of the record
+abbrev pub event_of : PastCall → Event
+event_of c = record { call = call_of c.asked; outcome = outcome_of c.failed; before = c.before }
+
+-- the directory of these files
+abbrev pub from_pairs : List (FileName × File) → Files
+from_pairs [] = finite.empty
+from_pairs (p ∷ ps) = finite.insert (from_pairs ps) p.0 p.1
+
+-- the files at first, the calls, the newest first, the moment, the count of faults and the call that failed last
+pub record Memory : Type 0 where
+  pub start : List (FileName × File)
+  pub calls : List Event
+  pub moment : ℕ
+  pub faults : ℕ
+  pub last : Option DiskCall
+
+-- its record of calls
+abbrev pub past_of : Memory → Past
+past_of m = record { start = from_pairs m.start; calls = m.calls; moment = m.moment }
+
+-- what it reads
+abbrev pub content_of : Memory → Files
+content_of m = content (from_pairs m.start) m.calls
+
+-- these files are there, nothing of them is pending, and no other file is there
+pub record HoldsFiles (files : List (FileName × List ℕ)) (s : Files) : Type 0 where
+  pub each : All (λ f. finite.get s f.0 ≡ Some (record { bytes = f.1; pending = [] })) files
+  pub others : (n : FileName) → All (λ f. f.0 ≢ n) files → finite.get s n ≡ None
+
+-- no call was made
+pub record IsFresh (m : Memory) : Type 0 where
+  pub calls : m.calls ≡ []
+  pub moment : m.moment ≡ 0
+  pub faults : m.faults ≡ 0
+  pub last : m.last ≡ None

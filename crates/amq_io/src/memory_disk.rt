@@ -1,0 +1,283 @@
+ghost use Rattle.std.specs.Prelude.{◌≡◌, ◌≢◌, [], map, option_map, OnOk, OnErr, IfOk, None, Some, Err};
+ghost use Rattle.std.specs.List.{AllPairs};
+ghost use Rattle.std.specs.FinMap as finite;
+ghost use Rattle.amq_model.specs.Calls.{after, counted, passed};
+ghost use Rattle.amq_io.specs.Notes.{Notes};
+ghost use Rattle.amq_io.specs.Cause.{HasCause};
+ghost use Rattle.amq_io.specs.Entries.{files_of, call_of, IsInside};
+ghost use Rattle.amq_io.specs.Torn.{IsLeftOf};
+ghost use Rattle.amq_io.specs.MemoryDisk.{outcome_of, past_of, content_of, HoldsFiles, IsFresh};
+
+use crate::asked::{Asked, PastCall};
+use crate::crash::{Pick, torn_entries};
+use crate::entries::{
+    Entry, bytes_of, copies, create, entries_of, pend, remove, rename, sync, write,
+};
+use crate::listing::list;
+use crate::{Disk, DiskError, FileInfo};
+use amq_model::{DiskCall, Name, NoMemory};
+use std::alloc::{AllocError, Global};
+use std::marker::Model;
+
+/// A disk in memory, for tests. It tells its content, and keeps a record of all its calls.
+#[derive(Drop)]
+pub struct MemoryDisk {
+    alloc: Global,
+    start: Vec<Entry>,
+    files: Vec<Entry>,
+    calls: Vec<PastCall>,
+    moment: u64,
+    fails: Vec<u64>,
+    faults: u64,
+    last: Option<DiskCall>,
+}
+
+impl Model for MemoryDisk {
+    ghost use Rattle.std.specs.Prelude.{◌≡◌, map, reverse};
+    ghost use Rattle.amq_model.specs.Calls.{content, IsTimed};
+    ghost use Rattle.amq_io.specs.Entries.{files_of, pair_of};
+    ghost use Rattle.amq_io.specs.MemoryDisk.{Memory, event_of, from_pairs};
+
+    ghost Value = { Memory };
+
+    ghost view = { λ d. record { start = map pair_of d.start.items; calls = reverse (map event_of d.calls.items); moment = d.moment; faults = d.faults; last = d.last } };
+
+    ghost invariant = { λ d. (files_of d.files.items ≡ content (from_pairs (map pair_of d.start.items)) (reverse (map event_of d.calls.items)))
+        × IsTimed (reverse (map event_of d.calls.items)) d.moment };
+}
+
+fn perform(
+    alloc: Global,
+    files: &mut Vec<Entry>,
+    asked: &Asked,
+    failed: bool,
+) -> Result<(), AllocError>
+    requires { IsInside (call_of asked.now) (files_of files.old.items) }
+    ensures ok { OnOk result (files_of files.new.items ≡ after (call_of asked.now) (outcome_of failed) (files_of files.old.items)) }
+    ensures err { OnErr result (files_of files.new.items ≡ files_of files.old.items) }
+{
+    if failed {
+        return match asked {
+            Asked::WriteAt(name, place, bytes) => pend(files, name, *place, bytes.len() as u64),
+            _ => Ok(()),
+        };
+    }
+    match asked {
+        Asked::List | Asked::Read(_) => Ok(()),
+        Asked::Create(name, len, fill) => create(alloc, files, name, *len, *fill),
+        Asked::WriteAt(name, place, bytes) => write(files, name, *place, bytes),
+        Asked::Sync(name) => {
+            sync(files, name);
+            Ok(())
+        }
+        Asked::Rename(from, to) => rename(files, from, to),
+        Asked::Remove(name) => {
+            remove(files, name);
+            Ok(())
+        }
+    }
+}
+
+impl MemoryDisk {
+    // A call that didn't begin for want of memory.
+    fn refuse<T: Drop>(&mut self) -> Result<T, DiskError>
+        ensures memory { result ≡ Err DiskError.NoMemory }
+        ensures passed { past_of self.new ≡ passed (past_of self.old) }
+        ensures faults { (self.new.faults ≡ self.old.faults) × (self.new.last ≡ self.old.last) }
+    {
+        self.moment = self.moment.saturating_add(1);
+        Err(DiskError::NoMemory)
+    }
+
+    // A call, which fails where its number is among those that are to fail.
+    fn run(&mut self, call: DiskCall, asked: Asked) -> Result<(), DiskError>
+        requires { IsInside (call_of asked) (content_of self.old) }
+        ensures note { Notes (call_of asked) result (Some (past_of self.old)) (Some (past_of self.new)) }
+        ensures time { self.new.moment ≡ counted self.old.moment }
+        ensures cause { HasCause call result (self.old.faults, self.old.last) (self.new.faults, self.new.last) }
+    {
+        let before = self.moment;
+        self.moment = before.saturating_add(1);
+        let failed = self.fails.contains(&self.moment);
+        if self.calls.try_reserve(1).is_err() {
+            return Err(DiskError::NoMemory);
+        }
+        if perform(self.alloc, &mut self.files, &asked, failed).is_err() {
+            return Err(DiskError::NoMemory);
+        }
+        self.calls
+            .push(PastCall {
+                asked,
+                failed,
+                before,
+            })
+            .unwrap();
+        if failed {
+            self.faults = self.faults.saturating_add(1);
+            self.last = Some(call);
+            Err(DiskError::Failed)
+        } else {
+            Ok(())
+        }
+    }
+}
+
+impl MemoryDisk {
+    /// A disk with no files.
+    pub fn new(alloc: Global) -> Result<MemoryDisk, NoMemory>
+        ensures fresh { IfOk result IsFresh }
+        ensures none { IfOk result (λ d. HoldsFiles [] (content_of d)) }
+    {
+        MemoryDisk::of_files(alloc, Vec::new(alloc))
+    }
+
+    /// A disk with these files, nothing of which is pending.
+    pub fn of_files(alloc: Global, files: Vec<(Name, Vec<u8>)>) -> Result<MemoryDisk, NoMemory>
+        requires { AllPairs (λ a b. a.0 ≢ b.0) files.items }
+        ensures fresh { IfOk result IsFresh }
+        ensures holds { IfOk result (λ d. HoldsFiles (map (λ e. (e.0, e.1.items)) files.items) (content_of d)) }
+    {
+        MemoryDisk::failing(alloc, files, Vec::new(alloc))
+    }
+
+    /// A disk with these files, on which the calls with these numbers fail, counted from 1.
+    ///
+    /// A call that is made to fail changes nothing that the disk reads; a write leaves its range pending.
+    pub fn failing(
+        alloc: Global,
+        files: Vec<(Name, Vec<u8>)>,
+        calls: Vec<u64>,
+    ) -> Result<MemoryDisk, NoMemory>
+        requires { AllPairs (λ a b. a.0 ≢ b.0) files.items }
+        ensures fresh { IfOk result IsFresh }
+        ensures holds { IfOk result (λ d. HoldsFiles (map (λ e. (e.0, e.1.items)) files.items) (content_of d)) }
+    {
+        let Ok(start) = entries_of(alloc, files) else {
+            return Err(NoMemory);
+        };
+        let Ok(files) = copies(alloc, &start) else {
+            return Err(NoMemory);
+        };
+        Ok(MemoryDisk {
+            alloc,
+            start,
+            files,
+            calls: Vec::new(alloc),
+            moment: 0,
+            fails: calls,
+            faults: 0,
+            last: None,
+        })
+    }
+
+    /// What the disk reads of a file, where it is there. It is no call of the disk.
+    pub fn look(&self, name: &str) -> Result<Option<Vec<u8>>, NoMemory>
+        ensures { IfOk result (λ o. option_map (λ v. v.items) o ≡ option_map (λ f. f.bytes) (finite.get (content_of self.now) name.now)) }
+    {
+        match bytes_of(self.alloc, &self.files, name) {
+            Ok(bytes) => Ok(bytes),
+            Err(_) => Err(NoMemory),
+        }
+    }
+
+    /// What a crash at this moment leaves, as a disk of its own: nothing of it is pending, and no call is
+    /// to fail.
+    pub fn crash(&self, pick: Pick) -> Result<MemoryDisk, NoMemory>
+        ensures left { IfOk result (λ d. IsLeftOf pick (content_of self.now) (content_of d)) }
+        ensures fresh { IfOk result IsFresh }
+    {
+        let Ok(start) = torn_entries(self.alloc, &self.files, pick) else {
+            return Err(NoMemory);
+        };
+        let Ok(files) = copies(self.alloc, &start) else {
+            return Err(NoMemory);
+        };
+        Ok(MemoryDisk {
+            alloc: self.alloc,
+            start,
+            files,
+            calls: Vec::new(self.alloc),
+            moment: 0,
+            fails: Vec::new(self.alloc),
+            faults: 0,
+            last: None,
+        })
+    }
+}
+
+impl Disk for MemoryDisk {
+    ghost past = { λ d. Some (past_of d) };
+
+    ghost moment = { λ d. d.moment };
+
+    ghost faults = { λ d. (d.faults, d.last) };
+
+    fn list(&mut self) -> Result<Vec<FileInfo>, DiskError> {
+        let Ok(infos) = list(self.alloc, &self.files) else {
+            return self.refuse();
+        };
+        self.run(DiskCall::List, Asked::List)?;
+        Ok(infos)
+    }
+
+    fn read(&mut self, name: &str) -> Result<Vec<u8>, DiskError> {
+        let Ok(asked) = String::from_str(self.alloc, name) else {
+            return self.refuse();
+        };
+        let Ok(found) = bytes_of(self.alloc, &self.files, name) else {
+            return self.refuse();
+        };
+        let Some(bytes) = found else {
+            unreachable!();
+        };
+        self.run(DiskCall::Read, Asked::Read(asked))?;
+        Ok(bytes)
+    }
+
+    fn create(&mut self, name: &str, len: u64, fill: u8) -> Result<(), DiskError> {
+        match Name::of(self.alloc, name) {
+            Ok(Some(name)) => self.run(DiskCall::Create, Asked::Create(name, len, fill)),
+            Ok(None) => unreachable!(),
+            Err(_) => self.refuse(),
+        }
+    }
+
+    fn write_at(&mut self, name: &str, place: u64, bytes: &[u8]) -> Result<(), DiskError> {
+        let Ok(name) = String::from_str(self.alloc, name) else {
+            return self.refuse();
+        };
+        let Ok(bytes) = bytes.to_vec(self.alloc) else {
+            return self.refuse();
+        };
+        self.run(DiskCall::WriteAt, Asked::WriteAt(name, place, bytes))
+    }
+
+    fn sync(&mut self, name: &str) -> Result<(), DiskError> {
+        match String::from_str(self.alloc, name) {
+            Ok(name) => self.run(DiskCall::Sync, Asked::Sync(name)),
+            Err(_) => self.refuse(),
+        }
+    }
+
+    fn rename(&mut self, from: &str, to: &str) -> Result<(), DiskError> {
+        let Ok(from) = String::from_str(self.alloc, from) else {
+            return self.refuse();
+        };
+        match Name::of(self.alloc, to) {
+            Ok(Some(to)) => self.run(DiskCall::Rename, Asked::Rename(from, to)),
+            Ok(None) => unreachable!(),
+            Err(_) => self.refuse(),
+        }
+    }
+
+    fn remove(&mut self, name: &str) -> Result<(), DiskError> {
+        match String::from_str(self.alloc, name) {
+            Ok(name) => self.run(DiskCall::Remove, Asked::Remove(name)),
+            Err(_) => self.refuse(),
+        }
+    }
+
+    fn moment(&self) -> u64 {
+        self.moment
+    }
+}

@@ -1,0 +1,78 @@
+-- What holds of all that may be left goes on from call to call.
+use Rattle.std.proofs.Common.{⊎_elim, ℕ, ◌-◌, ◌^◌, ◌<◌, List, [], ◌∷◌, Option, None, Some, refl, sym, subst, arith}
+use Rattle.std.specs.Prelude.{IfSome}
+use Rattle.amq_model.specs.Files.{FileName, Files, Image, IsImage, IsReading}
+use Rattle.amq_model.specs.Calls.{Call, Part, Outcome, fine, no_room, broken, listing, reading, creating, writing, syncing, renaming, removing, Past, Event, content, after}
+use Rattle.amq_model.specs.Crash.{synced_since, MayHaveDone, AgreesWithList, Next, ReadsBefore, Reads, ReadsSince, MayLeave}
+use Rattle.amq_model.specs.Leaves.{Leaves, Told, AllReads, HoldsSince, IsAt}
+use Rattle.amq_model.proofs.Moments.{reads_now, only_now}
+
+agrees_itself : (call : Call) (s : Files) → AgreesWithList call s s
+agrees_itself listing s = λ n. refl
+agrees_itself (reading n) s = tt
+agrees_itself (creating n len fill) s = tt
+agrees_itself (writing n place bytes) s = tt
+agrees_itself (syncing n) s = tt
+agrees_itself (renaming from to) s = tt
+agrees_itself (removing n) s = tt
+
+may_itself : (names : List FileName) (call : Call) (part : Part) → MayHaveDone names call part part
+may_itself names listing part = tt
+may_itself names (reading n) part = tt
+may_itself names (creating n len fill) part = tt
+may_itself names (writing n place bytes) part = λ there. refl
+may_itself names (syncing n) part = tt
+may_itself names (renaming from to) part = tt
+may_itself names (removing n) part = tt
+
+next_itself : (names : List FileName) (call : Call) (outcome : Outcome) (s : Files) → Next names call outcome s s (after call outcome s)
+next_itself names call fine s = (refl, agrees_itself call s)
+next_itself names call no_room s = refl
+next_itself names call (broken part) s = (part, may_itself names call part, refl)
+
+-- What the disk reads at a moment is one of the readings of it, whatever is synced later on.
+pub content_reads_before : (names : List FileName) (start : Files) (es : List Event) → ReadsBefore names start es (content start es)
+content_reads_before names start [] = refl
+content_reads_before names start (e ∷ es) = (content start es, content_reads_before (synced_since e.call e.outcome names) start es, next_itself names e.call e.outcome (content start es))
+
+-- what the disk reads is one of the readings
+pub content_reads : (start : Files) (es : List Event) → Reads start es (content start es)
+content_reads start es = content_reads_before [] start es
+
+-- what all readings have, the disk reads
+pub all_told : (h : Option Past) (P : Files → Type 0) → AllReads h P → Told h P
+all_told None P all = tt
+all_told (Some p) P all = all _ (content_reads p.start p.calls)
+
+-- after calls that end in P, whatever was before
+pub reads_start : (I E : Files → Files → Type 0) (P : Files → Type 0) (a b : Option Past) → ((o s : Files) → E o s → P s) → Leaves I E a b → AllReads b P
+reads_start I E P None b ends leaves = let F : Option Past → Type 0 = λ h. AllReads h P in subst F (sym leaves) tt
+reads_start I E P (Some p) b ends leaves = let F : Option Past → Type 0 = λ h. AllReads h P in subst F (sym leaves.1) (λ s reads. let o = leaves.2.reads s reads in ends _ _ o.2)
+
+-- what all readings have goes on through calls
+pub reads_on : (I E : Files → Files → Type 0) (P Q : Files → Type 0) (a b : Option Past) → AllReads a P → ((o s : Files) → P o → E o s → Q s) → Leaves I E a b → AllReads b Q
+reads_on I E P Q None b all ends leaves = let F : Option Past → Type 0 = λ h. AllReads h Q in subst F (sym leaves) tt
+reads_on I E P Q (Some p) b all ends leaves = let F : Option Past → Type 0 = λ h. AllReads h Q in subst F (sym leaves.1) (λ s reads. let o = leaves.2.reads s reads in ends _ _ (all o.0 o.1) o.2)
+
+-- what holds since a moment holds on through calls
+pub holds_on : (I E : Files → Files → Type 0) (P : Files → Type 0) (t : ℕ) (a b : Option Past) → HoldsSince a t P → ((o s : Files) → P o → I o s → P s) → Leaves I E a b → HoldsSince b t P
+holds_on I E P t None b holds inside leaves = let F : Option Past → Type 0 = λ h. HoldsSince h t P in subst F (sym leaves) tt
+holds_on I E P t (Some p) b holds inside leaves =
+    let F : Option Past → Type 0 = λ h. HoldsSince h t P in
+    subst F (sym leaves.1) (record {
+      earlier = omega (arith, holds.earlier, leaves.2.later);
+      each = λ s left. ⊎_elim (holds.each s) (λ o. inside _ _ (holds.each o.0 (reads_now p.start p.calls p.moment t o.0 holds.earlier o.1)) o.2) (leaves.2.left t s holds.earlier left);
+    })
+
+-- what all readings of this moment have holds since then
+pub holds_now : (P : Files → Type 0) (t : ℕ) (h : Option Past) → IfSome h (IsAt t) → t < 2 ^ 64 - 1 → AllReads h P → HoldsSince h t P
+holds_now P t None is low all = tt
+holds_now P t (Some p) is low all = record {
+  earlier = omega (arith, is.now);
+  each = λ s left. all s (only_now p.start p.calls p.moment s is.timed (omega (arith, is.now, low)) (subst (λ t. ReadsSince p.start p.calls p.moment t s) is.now left));
+}
+
+-- and so of each image
+pub holds_images : (P : Files → Type 0) (t : ℕ) (h : Option Past) → HoldsSince h t P → (found image : Image) → MayLeave h t found image → (s : Files) × P s × IsReading s found × IsImage s image
+holds_images P t None holds found image left = absurd left
+holds_images P t (Some p) holds found image left = (left.0, holds.each left.0 left.1, left.2, left.3)

@@ -1,0 +1,94 @@
+-- What some calls of a disk leave, said of each reading that there was before them, and what holds of all that is left.
+use Rattle.std.specs.Prelude.{◌≡◌, ◌⊎◌, ℕ, ◌≤◌, List, [], length, Option, None, Some, option_map, IfSome, IsSome}
+use Rattle.std.specs.FinMap as finite
+use Rattle.amq_model.specs.Files.{FileName, File, Files}
+use Rattle.amq_model.specs.Calls.{Call, Part, Past, done, partly, content, IsTimed}
+use Rattle.amq_model.specs.Crash.{Reads, ReadsSince}
+
+-- ---- what calls leave
+
+-- From old to new: what was left before stays, and whatever else may be left comes from a reading of old by `inside`, and in the end by `at_end`.
+pub record Goes (inside at_end : Files → Files → Type 0) (old new : Past) : Type 0 where
+  pub later : old.moment ≤ new.moment
+  pub told : at_end (content old.start old.calls) (content new.start new.calls)
+  pub reads : (s : Files) → Reads new.start new.calls s → (o : Files) × Reads old.start old.calls o × at_end o s
+  pub left : (t : ℕ) (s : Files) → t ≤ old.moment → ReadsSince new.start new.calls new.moment t s
+      → ReadsSince old.start old.calls old.moment t s ⊎ ((o : Files) × Reads old.start old.calls o × inside o s)
+  pub keeps : (t : ℕ) (s : Files) → ReadsSince old.start old.calls old.moment t s → ReadsSince new.start new.calls new.moment t s
+
+-- the same of a disk that may tell no content
+abbrev pub Leaves : (Files → Files → Type 0) → (Files → Files → Type 0) → Option Past → Option Past → Type 0
+Leaves inside at_end None new = new ≡ None
+Leaves inside at_end (Some old) new = (p : Past) × (new ≡ Some p) × Goes inside at_end old p
+
+-- what one call may leave, at each moment of it
+abbrev pub Within : Call → Files → Files → Type 0
+Within call o s = (s ≡ o) ⊎ (s ≡ done call o) ⊎ ((part : Part) × (s ≡ partly call part o))
+
+-- each reading goes on to exactly this one
+abbrev pub Exactly : (Files → Files) → Files → Files → Type 0
+Exactly f o s = s ≡ f o
+
+-- ---- what holds of all that is left
+
+-- each reading of this moment has P
+abbrev pub AllReads : Option Past → (Files → Type 0) → Type 0
+AllReads None P = Unit {0}
+AllReads (Some p) P = (s : Files) → Reads p.start p.calls s → P s
+
+-- each reading of every moment since t has P
+pub record AllSince (p : Past) (t : ℕ) (P : Files → Type 0) : Type 0 where
+  pub earlier : t ≤ p.moment
+  pub each : (s : Files) → ReadsSince p.start p.calls p.moment t s → P s
+
+-- the same of a disk that may tell no content
+abbrev pub HoldsSince : Option Past → ℕ → (Files → Type 0) → Type 0
+HoldsSince None t P = Unit {0}
+HoldsSince (Some p) t P = AllSince p t P
+
+-- t is this moment, and the moments of the calls rise
+pub record IsAt (t : ℕ) (p : Past) : Type 0 where
+  pub now : t ≡ p.moment
+  pub timed : IsTimed p.calls p.moment
+
+-- each reading of this moment stands so to what the disk reads
+abbrev pub AllAgree : Option Past → (Files → Files → Type 0) → Type 0
+AllAgree None R = Unit {0}
+AllAgree (Some p) R = (s : Files) → Reads p.start p.calls s → R (content p.start p.calls) s
+
+-- the file is the same there, or in neither
+abbrev pub IsSameFile : FileName → Files → Files → Type 0
+IsSameFile n told s = option_map (λ f. f.bytes) (finite.get s n) ≡ option_map (λ f. f.bytes) (finite.get told n)
+
+-- nothing of the file is pending
+abbrev pub NothingPending : Option File → Type 0
+NothingPending None = Unit {0}
+NothingPending (Some file) = file.pending ≡ []
+
+-- the file has one content, all of it durable
+pub record IsSettled (n : FileName) (told s : Files) : Type 0 where
+  pub bytes : IsSameFile n told s
+  pub durable : NothingPending (finite.get s n)
+
+-- the same files, of the same lengths
+abbrev pub IsListedSame : Files → Files → Type 0
+IsListedSame told s = (n : FileName) → option_map (λ f. length f.bytes) (finite.get s n) ≡ option_map (λ f. length f.bytes) (finite.get told n)
+
+-- ---- what the disk reads
+
+-- what a disk that tells its content reads now has P
+abbrev pub Told : Option Past → (Files → Type 0) → Type 0
+Told None P = Unit {0}
+Told (Some past) P = P (content past.start past.calls)
+
+-- a file of that name is there
+abbrev pub IsThere : FileName → Files → Type 0
+IsThere n s = IsSome (finite.get s n)
+
+-- the file is at least so long
+abbrev pub IsWithin : FileName → ℕ → Files → Type 0
+IsWithin n end s = IfSome (finite.get s n) (λ f. end ≤ length f.bytes)
+
+-- the file has these bytes
+abbrev pub HasBytes : FileName → List ℕ → Files → Type 0
+HasBytes n bytes s = IfSome (finite.get s n) (λ f. bytes ≡ f.bytes)

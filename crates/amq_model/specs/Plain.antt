@@ -1,0 +1,23 @@
+-- Records of no transaction, and commands for them.
+use Rattle.amq_model.specs.declared.record.Record.{Record}
+use Rattle.amq_model.specs.declared.record.Record.TheVariants as r
+use Rattle.amq_model.specs.declared.command.Command.{Command}
+use Rattle.amq_model.specs.declared.command.Command.TheVariants as c
+
+-- the record is of no transaction
+abbrev pub IsPlain : Record → Type 0
+IsPlain (r.Add id user_type body) = Unit {0}
+IsPlain (r.Update id user_type body) = Unit {0}
+IsPlain (r.Delete id) = Unit {0}
+IsPlain (r.AddTx tx id user_type body) = ⊥
+IsPlain (r.UpdateTx tx id user_type body) = ⊥
+IsPlain (r.DeleteTx tx id body) = ⊥
+IsPlain (r.Prepare tx count extra) = ⊥
+IsPlain (r.Commit tx count) = ⊥
+IsPlain (r.Rollback tx) = ⊥
+
+-- an add, or a delete outside transactions
+abbrev pub IsAddOrDelete : Command → Type 0
+IsAddOrDelete (c.Add id user_type body) = Unit {0}
+IsAddOrDelete (c.Delete id) = Unit {0}
+IsAddOrDelete _ = ⊥

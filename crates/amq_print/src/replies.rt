@@ -1,0 +1,97 @@
+ghost use Rattle.std.specs.Prelude.{◌≡◌, ◌++◌, OnOk, OnErr};
+ghost use Rattle.amq_model.specs.Texts.{reply_line, refusal_line, disk_call_name, phase_name};
+
+use crate::words::Word::{Number, Text};
+use crate::words::push_line;
+use amq_model::{Answer, DiskCall, NoMemory, Phase, Refusal, Reply};
+
+/// Appends the line of what a command was answered; a refusal for want of memory has no line.
+///
+/// After `NoMemory` the text is as before.
+pub fn push_answer(out: &mut Vec<u8>, answer: &Answer) -> Result<(), NoMemory>
+    ensures ok { OnOk result (out.new.items ≡ out.old.items ++ reply_line answer.now) }
+    ensures err { OnErr result (out.new.items ≡ out.old.items) }
+{
+    match *answer {
+        Answer::Done(Reply::Appended { place }) => push_line(out, &[Text("ok"), Number(place)]),
+        Answer::Done(Reply::Begun { tx }) => push_line(out, &[Text("tx"), Number(tx)]),
+        Answer::Done(Reply::Durable { count }) => {
+            push_line(out, &[Text("durable"), Number(count)])
+        }
+        Answer::Refused(refusal) => push_refusal(out, refusal),
+    }
+}
+
+/// Appends the line of a refusal.
+fn push_refusal(out: &mut Vec<u8>, refusal: Refusal) -> Result<(), NoMemory>
+    ensures ok { OnOk result (out.new.items ≡ out.old.items ++ refusal_line refusal) }
+    ensures err { OnErr result (out.new.items ≡ out.old.items) }
+{
+    let refused = Text("refused");
+    match refusal {
+        Refusal::Closed { fault } => {
+            push_line(out, &[refused, Text("Closed"), Text(disk_call_text(fault))])
+        }
+        Refusal::TooLarge { len, limit } => {
+            push_line(
+                out,
+                &[refused, Text("TooLarge"), Number(len), Number(limit)],
+            )
+        }
+        Refusal::NoTx { tx } => push_line(out, &[refused, Text("NoTx"), Number(tx)]),
+        Refusal::TxPrepared { tx } => push_line(out, &[refused, Text("TxPrepared"), Number(tx)]),
+        Refusal::Held { id, tx } => {
+            push_line(out, &[refused, Text("Held"), Number(id), Number(tx)])
+        }
+        Refusal::AlreadyLive { id } => push_line(out, &[refused, Text("AlreadyLive"), Number(id)]),
+        Refusal::NoRecord { id } => push_line(out, &[refused, Text("NoRecord"), Number(id)]),
+        Refusal::TxNumbersSpent { highest } => {
+            push_line(out, &[refused, Text("TxNumbersSpent"), Number(highest)])
+        }
+        Refusal::Compacting { phase } => {
+            push_line(out, &[refused, Text("Compacting"), Text(phase_text(phase))])
+        }
+        Refusal::FileIdsSpent { highest } => {
+            push_line(out, &[refused, Text("FileIdsSpent"), Number(highest)])
+        }
+        Refusal::Disk { call } => {
+            push_line(out, &[refused, Text("Disk"), Text(disk_call_text(call))])
+        }
+        Refusal::NoMemory => Ok(()),
+        Refusal::FileFull { len, left } => {
+            push_line(out, &[refused, Text("FileFull"), Number(len), Number(left)])
+        }
+    }
+}
+
+/// The name of a disk call.
+fn disk_call_text(call: DiskCall) -> &'static str
+    ensures { result.now ≡ disk_call_name call }
+{
+    match call {
+        DiskCall::List => "List",
+        DiskCall::Read => "Read",
+        DiskCall::Create => "Create",
+        DiskCall::WriteAt => "WriteAt",
+        DiskCall::Sync => "Sync",
+        DiskCall::Rename => "Rename",
+        DiskCall::Remove => "Remove",
+    }
+}
+
+/// The name of a phase.
+fn phase_text(phase: Phase) -> &'static str
+    ensures { result.now ≡ phase_name phase }
+{
+    match phase {
+        Phase::Idle => "Idle",
+        Phase::Reading => "Reading",
+        Phase::Packing => "Packing",
+        Phase::Writing => "Writing",
+        Phase::Control => "Control",
+        Phase::Swapped => "Swapped",
+        Phase::Freeing => "Freeing",
+        Phase::Renaming => "Renaming",
+        Phase::Dropping => "Dropping",
+    }
+}

@@ -1,0 +1,25 @@
+-- How long the parts of a spelling are.
+use Rattle.std.proofs.Common.{◌≡◌, ℕ, ◌+◌, length, refl, arith}
+use Rattle.amq_model.specs.declared.record.Record.{Record}
+use Rattle.amq_model.specs.declared.record.Record.TheVariants.{Add, Update, AddTx, UpdateTx, DeleteTx, Delete, Prepare, Commit, Rollback}
+use Rattle.amq_model.specs.RecordAt.{long, word, fields_of, len_of}
+
+pub length_long : (n : ℕ) → length (long n) ≡ 8
+unfolding long
+length_long n = refl
+
+pub length_word : (n : ℕ) → length (word n) ≡ 4
+unfolding word
+length_word n = refl
+
+pub length_fields : (rec : Record) → length (fields_of rec) + 10 ≡ len_of rec
+unfolding long word
+length_fields (Add id user_type body) = omega arith
+length_fields (Update id user_type body) = omega arith
+length_fields (AddTx tx id user_type body) = omega arith
+length_fields (UpdateTx tx id user_type body) = omega arith
+length_fields (DeleteTx tx id body) = omega arith
+length_fields (Delete id) = refl
+length_fields (Prepare tx count extra) = omega arith
+length_fields (Commit tx count) = refl
+length_fields (Rollback tx) = refl

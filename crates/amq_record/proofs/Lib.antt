@@ -1,0 +1,4 @@
+pub mod Lengths
+pub mod Fields
+pub mod Records
+pub mod Found

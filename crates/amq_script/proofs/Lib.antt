@@ -1,0 +1,8 @@
+pub mod Digits
+pub mod Pairs
+pub mod Letters
+pub mod Members
+pub mod Sections
+pub mod Progress
+pub mod Rows
+pub mod Grammar

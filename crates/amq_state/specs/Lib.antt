@@ -1,0 +1,4 @@
+pub mod Fed
+pub mod Backward
+pub mod Plain
+pub mod Ids

@@ -1,0 +1,98 @@
+ghost use Rattle.std.specs.Prelude.{◌≡◌, ◌++◌, [], map, take, vec_len, IfOk, OnOk, OnErr};
+ghost use Rattle.amq_model.specs.Effect.{result_of};
+ghost use Rattle.amq_state.specs.Ids.{live_numbers};
+ghost use Rattle.amq_state.specs.Fed.{placed_of, AreBelow};
+
+use crate::law::{plain_effect, plain_result};
+use crate::live::live_entries;
+use crate::numbers::{each_once, ids_of};
+use amq_model::{LoadState, NoMemory, Placed};
+use amq_record::Spot;
+use std::alloc::Global;
+use std::marker::Model;
+
+/// A load under way: contracts see it as the list of the records that it was fed.
+#[derive(Debug, Drop)]
+pub struct Loading {
+    alloc: Global,
+    list: Vec<Placed>,
+}
+
+impl Model for Loading {
+    ghost use Rattle.std.specs.Prelude.{List};
+    ghost use Rattle.amq_model.specs.declared.record.Placed.{Placed};
+
+    ghost Value = { List Placed };
+
+    ghost view = { λ l. l.list.items };
+}
+
+impl Loading {
+    /// A load that was fed nothing yet.
+    pub fn new(alloc: Global) -> Loading
+        ensures { result ≡ [] }
+    {
+        Loading {
+            alloc,
+            list: Vec::new(alloc),
+        }
+    }
+
+    /// Takes in the records of one file, which come behind those of lesser files. After `NoMemory` it is
+    /// unchanged.
+    pub fn feed_file(&mut self, file: u64, spots: &[Spot<'_>]) -> Result<(), NoMemory>
+        requires { AreBelow file self.old }
+        ensures ok { OnOk result (self.new ≡ self.old ++ map (placed_of file) spots.now) }
+        ensures err { OnErr result (self.new ≡ self.old) }
+    {
+        let before = self.list.len();
+        match copy_spots(self.alloc, &mut self.list, file, spots) {
+            Ok(()) => Ok(()),
+            Err(NoMemory) => {
+                self.list.truncate(before);
+                Err(NoMemory)
+            }
+        }
+    }
+
+    /// The ids of the live records, each once, ascending.
+    pub fn live_ids(&self) -> Result<Vec<u64>, NoMemory>
+        ensures { IfOk result (λ v. v.items ≡ live_numbers self.now) }
+    {
+        let effect = plain_effect(self.alloc, &self.list)?;
+        let live = live_entries(self.alloc, &effect)?;
+        each_once(self.alloc, &ids_of(self.alloc, &live)?)
+    }
+
+    /// The live records and the transactions in doubt of all that was fed.
+    pub fn finish(self) -> Result<LoadState, NoMemory>
+        ensures { IfOk result (λ s. s ≡ result_of self) }
+    {
+        plain_result(self.alloc, &self.list)
+    }
+}
+
+/// Adds the records of a file in memory of their own, all of them or some at the front.
+fn copy_spots(
+    alloc: Global,
+    list: &mut Vec<Placed>,
+    file: u64,
+    spots: &[Spot<'_>],
+) -> Result<(), NoMemory>
+    ensures ok { OnOk result (list.new.items ≡ list.old.items ++ map (placed_of file) spots.now) }
+    ensures err { OnErr result (take (vec_len list.old) list.new.items ≡ list.old.items) }
+{
+    for spot in spots {
+        let placed = Placed {
+            file,
+            place: spot.place,
+            compact: spot.compact,
+            rec: spot.rec.to_record(alloc)?,
+        };
+        match list.push(placed) {
+            Ok(()) => {}
+            Err(_) => return Err(NoMemory),
+        }
+    }
+    Ok(())
+}
