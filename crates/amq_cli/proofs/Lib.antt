@@ -3,3 +3,4 @@ pub mod Noted
 pub mod Played
 pub mod Lines
 pub mod Reloading
+pub mod Recovering

@@ -16,6 +16,8 @@ use Rattle.amq_model.specs.Leaves.{Told}
 use Rattle.amq_model.specs.Texts.{report_of}
 use Rattle.amq_io.specs.Cause.{Rose, Faults}
 use Rattle.amq_engine.specs.OneFile.{IsEmpty}
+use Rattle.amq_engine.specs.Lists.{Lists}
+use Rattle.amq_engine.specs.declared.chronicle.Kept.{Kept}
 use Rattle.amq_cli.specs.declared.status.Status.{Status}
 use Rattle.amq_cli.specs.declared.status.Status.TheVariants as s
 use Rattle.amq_cli.specs.declared.status.Unbuilt.TheVariants as u
@@ -26,6 +28,10 @@ use Rattle.amq_cli.specs.Script.{IsSaid, input_limit}
 -- the configuration of a broker that sets nothing
 abbrev pub defaults : Config
 defaults = record { file_size = 10485760; min_files = 2; pool_files = None; compact_min_files = 10; compact_percentage = 30; buffer_size = 501760; buffer_timeout = 3; user_version = 0 }
+
+-- what a chronicle that keeps all has kept
+abbrev pub lists_of : Kept → Lists
+lists_of kept = record { base = kept.base; steps = kept.steps.items; receipts = kept.receipts.items }
 
 -- ---- what a directory holds
 

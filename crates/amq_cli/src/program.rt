@@ -1,8 +1,11 @@
 //! The commands of the program, over any disk, source and sink.
-ghost use Rattle.std.specs.Prelude.{◌≡◌, ◌↔◌, ◌≤◌, [], true, false, map};
+ghost use Rattle.std.specs.Prelude.{◌≡◌, ◌⊎◌, ◌↔◌, ◌≤◌, [], length, true, false, map};
+ghost use Rattle.amq_model.specs.Answers.{history_of};
+ghost use Rattle.amq_model.specs.Leaves.{Told, LeavesNothingNew};
 ghost use Rattle.amq_model.specs.Legal.{AreLegal};
+ghost use Rattle.amq_engine.specs.Receipts.{IsCrashSafe, IsLastCount};
 ghost use Rattle.amq_cli.specs.Words.{is_replay};
-ghost use Rattle.amq_cli.specs.Offline.{HasCause, IsRun, is_before_opening, is_past_script, is_unwritten, defaults, IsWritten, IsEnd};
+ghost use Rattle.amq_cli.specs.Offline.{lists_of, HasBase, HasCause, IsRun, is_before_opening, is_past_script, is_unwritten, defaults, IsWritten, IsEnd};
 ghost use Rattle.amq_cli.specs.Script.{IsScript};
 
 use crate::commands::read_commands;
@@ -36,6 +39,12 @@ pub fn offline<D: Disk, S: Source, K: Sink>(
     ensures base { result.2.base ≡ [] }
     ensures legal { AreLegal result.2.base result.2.steps.items defaults }
     ensures later { (D.faults disk).0 ≤ (D.faults result.1).0 }
+
+    // The headline, and what the receipts are.
+    ensures crash_safe { IsCrashSafe (D.past result.1) (D.moment result.1) defaults.user_version (lists_of result.2) }
+    ensures durable { result.0 ≡ Status.Ok → IsLastCount (length (history_of result.2.steps.items)) result.2.receipts.items }
+    ensures opened { (result.2.receipts.items ≡ []) ⊎ Told (D.past disk) (HasBase result.2.base) }
+    ensures nothing_new { result.2.receipts.items ≡ [] → LeavesNothingNew (D.past disk) (D.past result.1) }
 {
     if !says_replay(words) {
         let status = Status::NotBuilt {

@@ -1,6 +1,6 @@
 //! Loading the file that a closed journal leaves.
 ghost use Rattle.std.specs.Prelude.{◌≡◌, ℕ, ◌≤◌, IfOk, IfErr, OnOk};
-ghost use Rattle.amq_model.specs.Leaves.{Told, IsThere};
+ghost use Rattle.amq_model.specs.Leaves.{Leaves, Unchanged, Told, IsThere};
 ghost use Rattle.amq_engine.specs.Engine.{data_name};
 ghost use Rattle.amq_cli.specs.Loaded.{IsLoaded, content_of, HasRecords};
 ghost use Rattle.amq_io.specs.Faults.{HasFault};
@@ -24,6 +24,8 @@ pub fn reload<D: Disk>(alloc: Global, disk: &mut D) -> Result<LoadState, DiskFau
     ensures loaded { IfOk result (λ state. Told (D.past disk.old) (λ s. (user_version : ℕ) (len : ℕ) → IsLoaded user_version len state s)) }
     ensures same { OnOk result (content_of (D.past disk.new) ≡ content_of (D.past disk.old)) }
     ensures cause { HasFault result (D.faults disk.old) (D.faults disk.new) }
+    ensures only_asks { Leaves Unchanged Unchanged (D.past disk.old) (D.past disk.new) }
+    ensures later { D.moment disk.old ≤ D.moment disk.new }
 {
     let bytes = faults::read(disk, DATA_FILE)?;
     match load(alloc, &bytes) {

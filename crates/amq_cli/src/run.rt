@@ -1,10 +1,12 @@
 //! Running the commands of a script on a disk.
-ghost use Rattle.std.specs.Prelude.{◌≡◌, ◌≤◌, [], All, None};
+ghost use Rattle.std.specs.Prelude.{◌≡◌, ◌≢◌, ◌⊎◌, ◌≤◌, [], length, All, None, IfSome};
+ghost use Rattle.amq_model.specs.Answers.{history_of};
 ghost use Rattle.amq_model.specs.Legal.{AreLegal};
 ghost use Rattle.amq_model.specs.Plain.{IsAddOrDelete};
-ghost use Rattle.amq_model.specs.Leaves.{Told, IsThere};
+ghost use Rattle.amq_model.specs.Leaves.{Leaves, Unchanged, LeavesNothingNew, Told, IsThere};
 ghost use Rattle.amq_engine.specs.Engine.{data_name};
-ghost use Rattle.amq_cli.specs.Offline.{HasRun, HasRunCause, IsReported, defaults, HasRunOn, HasDiskCause};
+ghost use Rattle.amq_engine.specs.Receipts.{IsCrashSafe, IsLastCount};
+ghost use Rattle.amq_cli.specs.Offline.{lists_of, HasBase, HasRun, HasRunCause, IsReported, defaults, HasRunOn, HasDiskCause};
 ghost use Rattle.amq_cli.specs.Loaded.{content_of};
 ghost use Rattle.amq_cli.specs.Statuses.{status_of, status_of_opening};
 
@@ -43,6 +45,10 @@ pub fn run<D: Disk>(
     ensures base { result.2.base ≡ [] }
     ensures legal { AreLegal result.2.base result.2.steps.items defaults }
     ensures later { (D.faults disk).0 ≤ (D.faults result.1).0 }
+    ensures crash_safe { IsCrashSafe (D.past result.1) (D.moment result.1) defaults.user_version (lists_of result.2) }
+    ensures durable { result.0 ≡ Status.Ok → IsLastCount (length (history_of result.2.steps.items)) result.2.receipts.items }
+    ensures opened { (result.2.receipts.items ≡ []) ⊎ Told (D.past disk) (HasBase result.2.base) }
+    ensures nothing_new { result.2.receipts.items ≡ [] → LeavesNothingNew (D.past disk) (D.past result.1) }
 {
     let chronicle = Kept::new(alloc);
     match Engine::open_on(alloc, disk, chronicle, DEFAULTS) {
@@ -75,6 +81,9 @@ fn run_on<D: Disk>(
     ensures base { result.2.base ≡ [] }
     ensures legal { AreLegal result.2.base result.2.steps.items defaults }
     ensures later { (D.faults engine.disk).0 ≤ (D.faults result.1).0 }
+    ensures crash_safe { IsCrashSafe (D.past result.1) (D.moment result.1) defaults.user_version (lists_of result.2) }
+    ensures durable { result.0 ≡ Status.Ok → IsLastCount (length (history_of result.2.steps.items)) result.2.receipts.items }
+    ensures receipted { result.2.receipts.items ≢ [] }
 {
     let played = replay(&mut engine, commands, text);
     let (mut disk, chronicle, closed) = engine.close();
@@ -94,6 +103,8 @@ fn add_report<D: Disk>(alloc: Global, disk: &mut D, text: &mut Vec<u8>) -> Statu
     ensures reported { result ≡ Status.Ok → IsReported text.old.items text.new.items (D.past disk.old) (D.past disk.new) }
     ensures cause { HasDiskCause result (D.faults disk.old) (D.faults disk.new) }
     ensures later { (D.faults disk.old).0 ≤ (D.faults disk.new).0 }
+    ensures only_asks { Leaves Unchanged Unchanged (D.past disk.old) (D.past disk.new) }
+    ensures moment { D.moment disk.old ≤ D.moment disk.new }
 {
     let state = match reload(alloc, disk) {
         Ok(state) => state,

@@ -1,6 +1,6 @@
 -- A journal in a directory that was empty.
-use Rattle.std.proofs.Common.{◌≡◌, inl, inr, ⊎_elim, ℕ, ◌+◌, ◌-◌, ◌^◌, ◌<◌, ◌≤◌, List, [], ◌∷◌, ◌++◌, length, drop, replicate, Bool, true, false, cond, Option, None, Some, refl, sym, ◌∙◌, ap, subst, arith}
-use Rattle.std.specs.Prelude.{IfSome, option_map, map as map_of}
+use Rattle.std.proofs.Common.{◌≡◌, ◌⊎◌, inl, inr, ⊎_elim, ℕ, ◌+◌, ◌-◌, ◌^◌, ◌<◌, ◌≤◌, List, [], ◌∷◌, ◌++◌, length, drop, replicate, Bool, true, false, cond, Option, None, Some, refl, sym, ◌∙◌, ap, subst, arith}
+use Rattle.std.specs.Prelude.{IfSome, All, Result, option_map, map as map_of}
 use Rattle.std.specs.FinMap as map
 use Rattle.std.proofs.lemmas.List.{length-replicate}
 use Rattle.std.proofs.lemmas.List.Elements.{All-replicate, All-drop}
@@ -29,6 +29,16 @@ use Rattle.amq_engine.specs.Engine.{data_name, temporary_name, MayHold, AreKept,
 use Rattle.amq_engine.proofs.Steps.{kept_from, kept_weaker}
 use Rattle.amq_engine.proofs.Sound.{Holding, header_long}
 use Rattle.amq_engine.proofs.Putting.{length-overlaid}
+use Rattle.amq_engine.proofs.Receipts.{if_some}
+use Rattle.amq_engine.proofs.Recovering.{told_safe, last_more}
+use Rattle.amq_engine.specs.Receipts.{AreInOrder, IsLastCount, IsCrashSafe}
+use Rattle.amq_model.specs.Configs.{IsConfig}
+use Rattle.amq_model.specs.Headline.{RecoversSince}
+use Rattle.amq_model.specs.Leaves.{LeavesNothingNew}
+use Rattle.amq_model.proofs.Recovering.{nothing_new}
+use Rattle.amq_io.proofs.Called.{listing_only_asks}
+use Rattle.amq_io.specs.Notes.{Notes}
+use Rattle.amq_io.specs.declared.disk.DiskError.{DiskError}
 
 no_entry : (es : List (FileName × File)) → map_of {B = FileName × ℕ} (λ e. (e.0, length e.1.bytes)) es ≡ [] → es ≡ []
 no_entry [] e = refl
@@ -117,8 +127,7 @@ module _ (config : Config) (room : 16 ≤ config.file_size) where
 abbrev pub first_lists : ℕ → Lists → Lists
 first_lists moment l = with_receipt 0 moment (with_base [] l)
 
-module _ (config : Config) (room : 16 ≤ config.file_size) (infos : List FileInfo) (a b d : Option Past) (none : infos ≡ []) (listed : Told a (IsListed infos)) (noted : b ≡ option_map (noted listing fine) a)
-    (went : Leaves (Prepares temporary_name data_name config.file_size 74 (header_of config.user_version 1)) (Prepared temporary_name data_name config.file_size 74 (header_of config.user_version 1)) b d) where
+module _ (config : Config) (room : 16 ≤ config.file_size) (infos : List FileInfo) (a b d : Option Past) (none : infos ≡ []) (listed : Told a (IsListed infos)) (noted : b ≡ option_map (noted listing fine) a) where
   abbrev P : Files → Files → Type 0
   P = Prepares temporary_name data_name config.file_size 74 (header_of config.user_version 1)
 
@@ -128,30 +137,79 @@ module _ (config : Config) (room : 16 ≤ config.file_size) (infos : List FileIn
   empty_now : AllReads b IsEmpty
   empty_now = empty_reads infos a b none listed noted
 
-  pub reads_begun : AllReads d (Holding config 0 [])
+  pub reads_begun : Leaves P E b d → AllReads d (Holding config 0 [])
   unfolding header
-  reads_begun = reads_on P E IsEmpty (Holding config 0 []) b d empty_now (holds_at_first config room) went
+  reads_begun went = reads_on P E IsEmpty (Holding config 0 []) b d empty_now (holds_at_first config room) went
 
-  kept_begun : (m : ℕ) → IfSome b (IsAt m) → m < 2 ^ 64 - 1 → HoldsSince d m (MayHold config 0 [])
-  unfolding header
-  kept_begun m at early =
-      kept_from P E (MayHold config 0 []) IsEmpty m b d
-      (kept_weaker IsEmpty (MayHold config 0 []) m b (λ s empty. inr (refl, λ q ne. empty q)) (holds_now IsEmpty m b at early empty_now)) empty_now (may_hold config room) went
+  -- however the preparation ended
+  module _ (F : Files → Files → Type 0) (went : Leaves (Prepares temporary_name data_name config.file_size 74 (header_of config.user_version 1)) F b d) where
+    kept_begun : (m : ℕ) → IfSome b (IsAt m) → m < 2 ^ 64 - 1 → HoldsSince d m (MayHold config 0 [])
+    unfolding header
+    kept_begun m at early =
+        kept_from P F (MayHold config 0 []) IsEmpty m b d
+        (kept_weaker IsEmpty (MayHold config 0 []) m b (λ s empty. inr (refl, λ q ne. empty q)) (holds_now IsEmpty m b at early empty_now)) empty_now (may_hold config room) went
 
-  told_begun : (m : ℕ) → IfSome b (IsAt m) → (l : Lists) → IsBlank l → IsTold d config 0 [] (first_lists m l)
-  told_begun m at l blank = record {
-    base = refl;
-    steps = ap history_of blank.1;
-    legal = subst (λ (ss : List Step). AreLegal [] ss config) (sym blank.1) (record { each = tt; opening = λ k d lt. absurd (omega (arith, lt)) });
-    kept = subst (λ (rs : List Receipted). AreKept d config 0 [] (rs ++ record { durable = 0; moment = m } ∷ [])) (sym blank.2) ((omega arith, kept_begun m at), tt);
-  }
+    told_begun : (m : ℕ) → IfSome b (IsAt m) → (l : Lists) → IsBlank l → IsTold d config 0 [] (first_lists m l)
+    told_begun m at l blank = record {
+      base = refl;
+      steps = ap history_of blank.1;
+      legal = subst (λ (ss : List Step). AreLegal [] ss config) (sym blank.1) (record { each = tt; opening = λ k d lt. absurd (omega (arith, lt)) });
+      kept = subst (λ (rs : List Receipted). AreKept d config 0 [] (rs ++ record { durable = 0; moment = m } ∷ [])) (sym blank.2) ((omega arith, kept_begun m at), tt);
+    }
 
-  pub begun_is : (m : ℕ) → IfSome b (IsAt m) → (lists lists' : Option Lists) (receipts : ℕ) → IfSome lists IsBlank → lists' ≡ option_map (with_receipt 0 m) (option_map (with_base []) lists) → 1 ≤ receipts → IsBegun d lists' receipts config
-  begun_is m at lists lists' receipts blank is more = record {
-    reads_now = reads_begun;
+    order_begun : (m later : ℕ) → m ≤ later → (l : Lists) → IsBlank l → AreInOrder later (first_lists m l).receipts
+    order_begun m later on l blank = subst (λ (rs : List Receipted). AreInOrder later (rs ++ record { durable = 0; moment = m } ∷ [])) (sym blank.2) (refl, on)
+
+    -- the chronicle is crash safe from the first receipt on
+    pub begun_safe : (m later : ℕ) → IsConfig config → IfSome b (IsAt m) → m ≤ later → (lists lists' : Option Lists) → IfSome lists IsBlank → lists' ≡ option_map (with_receipt 0 m) (option_map (with_base []) lists) → IfSome lists' (IsCrashSafe d later config.user_version)
+    begun_safe m later ranges at on lists lists' blank is = subst (λ (l : Option Lists). IfSome l (IsCrashSafe d later config.user_version)) (sym is) (by lists blank) where
+      by : (o : Option Lists) → IfSome o IsBlank → IfSome (option_map (with_receipt 0 m) (option_map (with_base []) o)) (IsCrashSafe d later config.user_version)
+      by None blank = tt
+      by (Some l) blank = told_safe d later config 0 [] (first_lists m l) ranges (λ k x lt. absurd (omega (arith, lt))) (told_begun m at l blank) (order_begun m later on l blank)
+
+    -- it has a receipt
+    pub begun_some : (m : ℕ) (Q : Type 0) (lists lists' : Option Lists) → IfSome lists IsBlank → lists' ≡ option_map (with_receipt 0 m) (option_map (with_base []) lists) → IfSome lists' (λ l. l.receipts ≡ [] → Q)
+    begun_some m Q lists lists' blank is = subst (λ (l : Option Lists). IfSome l (λ l. l.receipts ≡ [] → Q)) (sym is) (by lists blank) where
+      by : (o : Option Lists) → IfSome o IsBlank → IfSome (option_map (with_receipt 0 m) (option_map (with_base []) o)) (λ l. l.receipts ≡ [] → Q)
+      by None blank = tt
+      by (Some l) blank = λ empty. absurd (let e : record { durable = 0; moment = m } ∷ [] ≡ [] = sym (ap (λ (rs : List Receipted). rs ++ record { durable = 0; moment = m } ∷ []) blank.2) ∙ empty in cc)
+
+  pub begun_is : Leaves P E b d → (m later : ℕ) → IfSome b (IsAt m) → m ≤ later → (lists lists' : Option Lists) (receipts : ℕ) → IfSome lists IsBlank → lists' ≡ option_map (with_receipt 0 m) (option_map (with_base []) lists) → 1 ≤ receipts → IsBegun d later lists' receipts config
+  begun_is went m later at on lists lists' receipts blank is more = record {
+    order = subst (λ (l : Option Lists). IfSome l (λ l. AreInOrder later l.receipts)) (sym is) (ordered lists blank);
+    last = subst (λ (l : Option Lists). IfSome l (λ l. IsLastCount 0 l.receipts)) (sym is) (counted lists blank);
+    reads_now = reads_begun went;
     room = more;
     told = subst (λ (l : Option Lists). IfSome l (IsTold d config 0 [])) (sym is) (by lists blank);
   } where
     by : (o : Option Lists) → IfSome o IsBlank → IfSome (option_map (with_receipt 0 m) (option_map (with_base []) o)) (IsTold d config 0 [])
     by None blank = tt
-    by (Some l) blank = told_begun m at l blank
+    by (Some l) blank = told_begun E went m at l blank
+
+    ordered : (o : Option Lists) → IfSome o IsBlank → IfSome (option_map (with_receipt 0 m) (option_map (with_base []) o)) (λ l. AreInOrder later l.receipts)
+    ordered None blank = tt
+    ordered (Some l) blank = order_begun E went m later on l blank
+
+    counted : (o : Option Lists) → IfSome o IsBlank → IfSome (option_map (with_receipt 0 m) (option_map (with_base []) o)) (λ l. IsLastCount 0 l.receipts)
+    counted None blank = tt
+    counted (Some l) blank = last_more 0 m l.receipts
+
+-- a chronicle without receipts is crash safe
+blank_is_safe : (past : Option Past) (moment wanted : ℕ) (l : Lists) → l.receipts ≡ [] → IsCrashSafe past moment wanted l
+blank_is_safe past moment wanted l none = record {
+  recovers = subst (λ (rs : List Receipted). All (λ r. r.moment < 2 ^ 64 - 1 → RecoversSince past r.moment wanted l.base (history_of l.steps) r.durable) rs) (sym none) (λ k x lt. absurd (omega (arith, lt)));
+  receipts = subst (AreInOrder moment) (sym none) tt;
+}
+
+pub blank_safe : (past : Option Past) (moment wanted : ℕ) (lists lists' : Option Lists) → lists' ≡ lists → IfSome lists IsBlank → IfSome lists' (IsCrashSafe past moment wanted)
+blank_safe past moment wanted lists lists' is blank = subst (λ (l : Option Lists). IfSome l (IsCrashSafe past moment wanted)) (sym is) (if_some IsBlank (IsCrashSafe past moment wanted) lists (λ l b. blank_is_safe past moment wanted l b.2) blank)
+
+-- what only a list was asked of
+pub listed_nothing_new : {T : Type 0} (result : Result T DiskError) (lists : Option Lists) (a b : Option Past) → Notes listing result a b → IfSome lists (λ l. l.receipts ≡ [] → LeavesNothingNew a b)
+listed_nothing_new result None a b notes = tt
+listed_nothing_new result (Some l) a b notes = λ none. nothing_new a b (listing_only_asks result a b notes)
+
+-- a fact that doesn't depend on what is told
+pub some_if : (P : Lists → Type 0) (Q : Type 0) (lists : Option Lists) → Q → IfSome lists (λ l. P l ⊎ Q)
+some_if P Q None q = tt
+some_if P Q (Some l) q = inr q

@@ -204,3 +204,8 @@ count_fits past lists room config live buffer end appended durable flushed s =
 -- legal steps, as clauses say it
 pub told_legal : (past : Option Past) (config : Config) (durable : ℕ) (history : List Item) (lists : Option Lists) → IfSome lists (IsTold past config durable history) → IfSome lists (λ l. AreLegal l.base l.steps config)
 told_legal past config durable history lists told = if_some (IsTold past config durable history) (λ l. AreLegal l.base l.steps config) lists (λ l told. told.legal) told
+
+-- the history has as many records as were appended
+pub sound_count : (past : Option Past) (lists : Option Lists) (room : ℕ) (config : Config) (live : BTreeSet ℕ) (buffer : List ℕ) (end appended durable : ℕ) → IsSound past lists room config live buffer end appended durable → IfSome lists (λ l. appended ≡ length (history_of l.steps))
+sound_count past lists room config live buffer end appended durable s =
+    if_some (IsTold past config durable s.history) (λ l. appended ≡ length (history_of l.steps)) lists (λ l told. s.count ∙ sym (length-placed s.history) ∙ ap length (sym told.steps)) s.told

@@ -5,6 +5,7 @@ pub mod Steps
 pub mod Receipts
 pub mod History
 pub mod Sound
-pub mod Begun
 pub mod Commands
+pub mod Recovering
+pub mod Begun
 pub mod Closed

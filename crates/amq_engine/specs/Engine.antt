@@ -25,12 +25,14 @@ use Rattle.amq_model.specs.Leaves.{AllReads, HoldsSince, Told}
 use Rattle.amq_model.specs.Answers.{record_of, history_of, in_view, too_large, first_some}
 use Rattle.amq_model.specs.Legal.{AreLegal}
 use Rattle.amq_model.specs.Plain.{IsPlain}
+use Rattle.amq_model.specs.Configs.{IsConfig}
 use Rattle.amq_scan.specs.Written.{Item, IsItem, spelled, end_from}
 use Rattle.amq_engine.specs.declared.chronicle.Receipted.{Receipted}
 use Rattle.amq_io.specs.Cause.{Rose, Faults}
 use Rattle.amq_io.specs.declared.faults.DiskFault.{DiskFault}
 use Rattle.amq_io.specs.declared.faults.DiskFault.TheVariants as f
 use Rattle.amq_engine.specs.Lists.{Lists, with_step, with_receipt}
+use Rattle.amq_engine.specs.Receipts.{AreInOrder, IsLastCount}
 use Rattle.amq_engine.specs.OneFile.{header_of, placed_in, Holds, IsFresh, IsEmpty}
 
 -- ---- the value
@@ -136,6 +138,13 @@ pub record IsSound (past : Option Past) (lists : Option Lists) (receipt_room : �
   pub room : (buffer ≡ [] → ⊥) → 1 ≤ receipt_room
   pub told : IfSome lists (IsTold past config durable history)
 
+-- the same, with the range of the parameters, and receipts in order, the last of which counts what is durable
+pub record IsValid (past : Option Past) (moment : ℕ) (lists : Option Lists) (receipt_room : ℕ) (config : Config) (live : BTreeSet ℕ) (buffer : List ℕ) (end appended durable : ℕ) : Type 0 where
+  pub sound : IsSound past lists receipt_room config live buffer end appended durable
+  pub ranges : IsConfig config
+  pub order : IfSome lists (λ l. AreInOrder moment l.receipts)
+  pub last : IfSome lists (λ l. IsLastCount durable l.receipts)
+
 -- ---- commands
 
 -- the id of an add or delete
@@ -208,6 +217,11 @@ abbrev pub HasCause : {T : Type 0} → Result T Refusal → Faults → Faults �
 HasCause (Err (r.Disk call)) old new = Rose old.0 new.0 × (new.1 ≡ Some call)
 HasCause _ old new = Unit {0}
 
+-- how many appends are durable behind a flush that was answered so
+abbrev pub durable_after : Result ℕ Refusal → ℕ → ℕ
+durable_after (Ok count) durable = count
+durable_after (Err refusal) durable = durable
+
 -- the call after which the engine is closed, behind this answer
 abbrev pub closed_after : {T : Type 0} → Result T Refusal → Option DiskCall → Option DiskCall
 closed_after (Err (r.Disk call)) closed = Some call
@@ -228,7 +242,9 @@ pub record AreBegun (moment : ℕ) (l : Lists) : Type 0 where
   pub receipts : l.receipts ≡ record { durable = 0; moment = moment } ∷ []
 
 -- what an opening leaves: the one file, without records, and the chronicle begun
-pub record IsBegun (past : Option Past) (lists : Option Lists) (receipt_room : ℕ) (config : Config) : Type 0 where
+pub record IsBegun (past : Option Past) (moment : ℕ) (lists : Option Lists) (receipt_room : ℕ) (config : Config) : Type 0 where
+  pub order : IfSome lists (λ l. AreInOrder moment l.receipts)
+  pub last : IfSome lists (λ l. IsLastCount 0 l.receipts)
   pub reads_now : AllReads past (Holds data_name (header_of config.user_version 1) 1 config.file_size 0 [])
   pub room : 1 ≤ receipt_room
   pub told : IfSome lists (IsTold past config 0 [])

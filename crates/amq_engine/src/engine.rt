@@ -1,13 +1,14 @@
 //! The journal over one disk.
-ghost use Rattle.std.specs.Prelude.{◌≡◌, ◌⊎◌, ◌↔◌, ℕ, ◌+◌, ◌-◌, ◌^◌, ◌<◌, ◌≤◌, [], Option, None, Some, Ok, Err, IfSome, IsSome, IfOk, IfErr, OnOk, OnErr};
+ghost use Rattle.std.specs.Prelude.{◌≡◌, ◌⊎◌, ◌↔◌, ℕ, ◌+◌, ◌-◌, ◌^◌, ◌<◌, ◌≤◌, [], length, Option, None, Some, Ok, Err, IfSome, IsSome, IfOk, IfErr, OnOk, OnErr};
 ghost use Rattle.amq_model.specs.Configs.{IsConfig};
-ghost use Rattle.amq_model.specs.Leaves.{Told};
+ghost use Rattle.amq_model.specs.Leaves.{Told, LeavesNothingNew};
 ghost use Rattle.amq_model.specs.Plain.{IsAddOrDelete};
 ghost use Rattle.amq_model.specs.Legal.{AreLegal};
 ghost use Rattle.amq_model.specs.declared.refusal.DiskCall.{DiskCall};
 ghost use Rattle.amq_model.specs.Answers.{history_of};
 ghost use Rattle.amq_engine.specs.OneFile.{IsEmpty, IsJournalFile};
-ghost use Rattle.amq_engine.specs.Engine.{Notes, IsCommandAnswer, IsBlank, IsUnopened, AreBegun, HasOpenCause, HasCause, closed_after, is_flushed, receipted, data_name};
+ghost use Rattle.amq_engine.specs.Receipts.{IsCrashSafe, IsLastCount};
+ghost use Rattle.amq_engine.specs.Engine.{Notes, IsCommandAnswer, IsBlank, IsUnopened, AreBegun, HasOpenCause, HasCause, closed_after, durable_after, is_flushed, receipted, data_name};
 
 use crate::chronicle::Chronicle;
 use crate::keep::{keep, refusal_of};
@@ -45,7 +46,7 @@ pub struct Engine<D: Disk, C: Chronicle> {
 }
 
 impl<D: Disk, C: Chronicle> Model for Engine<D, C> {
-    ghost use Rattle.amq_engine.specs.Engine.{EngineOf, engine_code, IsSound};
+    ghost use Rattle.amq_engine.specs.Engine.{EngineOf, engine_code, IsValid};
 
     ghost Value = { EngineOf D C };
 
@@ -53,7 +54,7 @@ impl<D: Disk, C: Chronicle> Model for Engine<D, C> {
 
     ghost view = { λ e. record { disk = e.disk; chronicle = e.chronicle; config = e.config; appended = e.appended; durable = e.durable; closed = e.closed } };
 
-    ghost invariant = { λ e. IsSound (D.past e.disk) (C.lists e.chronicle) (C.receipt_room e.chronicle) e.config e.live e.buffer.items e.end e.appended e.durable };
+    ghost invariant = { λ e. IsValid (D.past e.disk) (D.moment e.disk) (C.lists e.chronicle) (C.receipt_room e.chronicle) e.config e.live e.buffer.items e.end e.appended e.durable };
 }
 
 /// Why a journal wasn't opened, with its disk and its chronicle.
@@ -100,6 +101,12 @@ impl<D: Disk, C: Chronicle> Engine<D, C> {
         ensures unopened { IfErr result (λ e. IfSome (C.lists e.chronicle) IsUnopened) }
         ensures cause { IfErr result (λ e. HasOpenCause e.fault (D.past disk) (D.past e.disk) (D.faults disk) (D.faults e.disk)) }
         ensures failed_later { IfErr result (λ e. (D.faults disk).0 ≤ (D.faults e.disk).0) }
+
+        // Each receipt is kept, also where the opening failed behind the first.
+        ensures crash_safe { IfOk result (λ e. IfSome (C.lists e.0.chronicle) (IsCrashSafe (D.past e.0.disk) (D.moment e.0.disk) config.user_version)) }
+        ensures failed_safe { IfErr result (λ e. IfSome (C.lists e.chronicle) (IsCrashSafe (D.past e.disk) (D.moment e.disk) config.user_version)) }
+        ensures failed_empty { IfErr result (λ e. IfSome (C.lists e.chronicle) (λ l. (l.receipts ≡ []) ⊎ Told (D.past disk) IsEmpty)) }
+        ensures nothing_new { IfErr result (λ e. IfSome (C.lists e.chronicle) (λ l. l.receipts ≡ [] → LeavesNothingNew (D.past disk) (D.past e.disk))) }
     {
         match begin(alloc, &mut disk, &mut chronicle, &config) {
             Ok(()) => {
@@ -145,6 +152,9 @@ impl<D: Disk, C: Chronicle> Engine<D, C> {
         ensures err { OnErr result (self.new.appended ≡ self.old.appended) }
         ensures same { self.new ≡ record self.old { chronicle = self.new.chronicle; appended = self.new.appended } }
         ensures closed { (call : DiskCall) → (result ≡ Err (Refusal.Closed call)) ↔ (self.old.closed ≡ Some call) }
+        ensures history { IfSome (C.lists self.new.chronicle) (λ l. self.new.appended ≡ length (history_of l.steps)) }
+        ensures crash_safe { IfSome (C.lists self.new.chronicle) (IsCrashSafe (D.past self.new.disk) (D.moment self.new.disk) self.new.config.user_version) }
+        ensures last { IfSome (C.lists self.new.chronicle) (λ l. IsLastCount self.new.durable l.receipts) }
     {
         if let Some(fault) = self.closed {
             return Err(Refusal::Closed { fault });
@@ -198,6 +208,9 @@ impl<D: Disk, C: Chronicle> Engine<D, C> {
         ensures closes { self.new.closed ≡ closed_after result self.old.closed }
         ensures cause { HasCause result (D.faults self.old.disk) (D.faults self.new.disk) }
         ensures later { (D.faults self.old.disk).0 ≤ (D.faults self.new.disk).0 }
+        ensures history { IfSome (C.lists self.new.chronicle) (λ l. self.new.appended ≡ length (history_of l.steps)) }
+        ensures crash_safe { IfSome (C.lists self.new.chronicle) (IsCrashSafe (D.past self.new.disk) (D.moment self.new.disk) self.new.config.user_version) }
+        ensures last { IfSome (C.lists self.new.chronicle) (λ l. IsLastCount self.new.durable l.receipts) }
     {
         if let Some(fault) = self.closed {
             return Err(Refusal::Closed { fault });
@@ -231,6 +244,9 @@ impl<D: Disk, C: Chronicle> Engine<D, C> {
         ensures closed { (call : DiskCall) → (result.2 ≡ Err (Refusal.Closed call)) ↔ (self.closed ≡ Some call) }
         ensures cause { HasCause result.2 (D.faults self.disk) (D.faults result.0) }
         ensures later { (D.faults self.disk).0 ≤ (D.faults result.0).0 }
+        ensures history { IfSome (C.lists result.1) (λ l. self.appended ≡ length (history_of l.steps)) }
+        ensures crash_safe { IfSome (C.lists result.1) (IsCrashSafe (D.past result.0) (D.moment result.0) self.config.user_version) }
+        ensures last { IfSome (C.lists result.1) (λ l. IsLastCount (durable_after result.2 self.durable) l.receipts) }
     {
         let outcome = self.flush();
         let Engine {

@@ -26,6 +26,7 @@ pub fn prepare<D: Disk>(
     ensures crash { Leaves (Prepares temporary.now name.now len 74 header.now) (Prepares temporary.now name.now len 74 header.now) (D.past disk.old) (D.past disk.new) }
     ensures ok { OnOk result (Leaves (Prepares temporary.now name.now len 74 header.now) (Prepared temporary.now name.now len 74 header.now) (D.past disk.old) (D.past disk.new)) }
     ensures cause { HasFault result (D.faults disk.old) (D.faults disk.new) }
+    ensures later { D.moment disk.old ≤ D.moment disk.new }
 {
     faults::create(disk, temporary, len, FILLING)?;
     faults::write_at(disk, temporary, 0, header)?;

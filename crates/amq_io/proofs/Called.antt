@@ -1,9 +1,10 @@
 -- What one call of a disk leaves, by what it answered.
-use Rattle.std.proofs.Common.{◌≡◌, inl, inr, Option, None, Some, Result, Ok, Err, refl, subst}
-use Rattle.amq_model.specs.Files.{Files}
-use Rattle.amq_model.specs.Calls.{Call, Part, Past, fine, no_room, broken, done, partly, noted, passed}
-use Rattle.amq_model.specs.Leaves.{Leaves, Within, Exactly}
+use Rattle.std.proofs.Common.{◌≡◌, inl, inr, Option, None, Some, Result, Ok, Err, refl, subst, ◌∙◌}
+use Rattle.amq_model.specs.Files.{FileName, Files}
+use Rattle.amq_model.specs.Calls.{Call, Part, Past, listing, reading, fine, no_room, broken, done, partly, noted, passed}
+use Rattle.amq_model.specs.Leaves.{Leaves, Within, Exactly, Unchanged}
 use Rattle.amq_model.proofs.Moments.{one, none, go_on}
+use Rattle.amq_model.proofs.Chain.{loosely}
 use Rattle.amq_io.specs.Notes.{Notes}
 use Rattle.amq_io.specs.declared.disk.DiskError.{DiskError}
 use Rattle.amq_io.specs.declared.disk.DiskError.TheVariants.{Failed, NoMemory}
@@ -40,3 +41,23 @@ at_last I f call result a b c so_far notes here =
     (λ o m s e w. here o s (subst (λ m. Within call m s) e w))
     (λ o m s e w. here o s (subst (λ m. Within call m s) e (ended_within call result m s w)))
     so_far (called call result b c notes)
+
+-- a call that only asks changes no reading
+only_asks : {T : Type 0} (call : Call) (result : Result T DiskError) (old new : Option Past) → ((s : Files) → done call s ≡ s) → ((part : Part) (s : Files) → partly call part s ≡ s) → Notes call result old new → Leaves Unchanged Unchanged old new
+only_asks call result old new all some notes = loosely (Within call) Unchanged (Ended call result) Unchanged old new
+    within
+    (λ o s e. within o s (ended_within call result o s e))
+    (called call result old new notes)
+  where
+    within : (o s : Files) → Within call o s → s ≡ o
+    within o s (inl e) = e
+    within o s (inr (inl e)) = e ∙ all o
+    within o s (inr (inr e)) = e.1 ∙ some e.0 o
+
+-- a list of the directory, whatever it answers
+pub listing_only_asks : {T : Type 0} (result : Result T DiskError) (old new : Option Past) → Notes listing result old new → Leaves Unchanged Unchanged old new
+listing_only_asks result old new notes = only_asks listing result old new (λ s. refl) (λ part s. refl) notes
+
+-- a reading of a file, whatever it answers
+pub reading_only_asks : {T : Type 0} (n : FileName) (result : Result T DiskError) (old new : Option Past) → Notes (reading n) result old new → Leaves Unchanged Unchanged old new
+reading_only_asks n result old new notes = only_asks (reading n) result old new (λ s. refl) (λ part s. refl) notes

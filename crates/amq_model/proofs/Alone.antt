@@ -46,7 +46,8 @@ module _ (name header bytes : List ℕ) (fid wanted : ℕ) (is : IsTrue (is_data
   pub long : 16 ≤ length bytes
   long = omega (arith, ap length front, headed.size, length-take 16 bytes)
 
-  files : files_by_name ((name, bytes) ∷ []) None ≡ file_of name bytes ∷ []
+  -- the one file counts
+  pub files : files_by_name ((name, bytes) ∷ []) None ≡ file_of name bytes ∷ []
   files = rw (leb_true 16 (length bytes) long, is) refl
 
   pub part : (n m : ℕ) → n + m ≤ 16 → take m (drop n bytes) ≡ take m (drop n header)
@@ -80,7 +81,7 @@ module _ (name header bytes : List ℕ) (fid wanted : ℕ) (is : IsTrue (is_data
       subst (λ (fs : List FileOf). IsJoined (by_id fs) (map_of (placed fid) spots)) (sym files) one
 
   -- no control file is there
-  uncontrolled : same name control_name ≡ false → SaysControl ((name, bytes) ∷ []) None
+  pub uncontrolled : same name control_name ≡ false → SaysControl ((name, bytes) ∷ []) None
   uncontrolled other found control there is = absurd (let e : None ≡ Some found = sym (ap (λ (b : Bool). cond b (Some bytes) None) other) ∙ there in cc)
 
   pub loads_it : same name control_name ≡ false → (spots : List Spot) → IsScan bytes fid 2 spots → Loads ((name, bytes) ∷ []) wanted (result_of (map_of (placed fid) spots))

@@ -14,6 +14,7 @@ pub mod Literals
 pub mod Lookups
 pub mod Moments
 pub mod Plain
+pub mod Recovering
 pub mod Scans
 pub mod Settling
 pub mod Vectors

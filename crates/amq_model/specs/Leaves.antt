@@ -1,9 +1,9 @@
 -- What some calls of a disk leave, said of each reading that there was before them, and what holds of all that is left.
 use Rattle.std.specs.Prelude.{◌≡◌, ◌⊎◌, ℕ, ◌≤◌, List, [], length, Option, None, Some, option_map, IfSome, IsSome}
 use Rattle.std.specs.FinMap as finite
-use Rattle.amq_model.specs.Files.{FileName, File, Files}
+use Rattle.amq_model.specs.Files.{FileName, File, Files, Image, IsImage}
 use Rattle.amq_model.specs.Calls.{Call, Part, Past, done, partly, content, IsTimed}
-use Rattle.amq_model.specs.Crash.{Reads, ReadsSince}
+use Rattle.amq_model.specs.Crash.{Reads, ReadsSince, MayLeave}
 
 -- ---- what calls leave
 
@@ -29,6 +29,10 @@ Within call o s = (s ≡ o) ⊎ (s ≡ done call o) ⊎ ((part : Part) × (s ≡
 abbrev pub Exactly : (Files → Files) → Files → Files → Type 0
 Exactly f o s = s ≡ f o
 
+-- nothing changes
+abbrev pub Unchanged : Files → Files → Type 0
+Unchanged o s = s ≡ o
+
 -- ---- what holds of all that is left
 
 -- each reading of this moment has P
@@ -45,6 +49,26 @@ pub record AllSince (p : Past) (t : ℕ) (P : Files → Type 0) : Type 0 where
 abbrev pub HoldsSince : Option Past → ℕ → (Files → Type 0) → Type 0
 HoldsSince None t P = Unit {0}
 HoldsSince (Some p) t P = AllSince p t P
+
+-- Whatever a crash since the moment t may leave has Q, with the reading that it is left of.
+pub record AllLeft (p : Past) (t : ℕ) (Q : Image → Image → Type 0) : Type 0 where
+  pub earlier : t ≤ p.moment
+  pub each : (reading image : Image) → MayLeave (Some p) t reading image → Q reading image
+
+-- the same of a disk that may tell no content
+abbrev pub LeftSince : Option Past → ℕ → (Image → Image → Type 0) → Type 0
+LeftSince None t Q = Unit {0}
+LeftSince (Some p) t Q = AllLeft p t Q
+
+-- what a crash at this moment may leave
+abbrev pub IsLeftNow : Past → Image → Type 0
+IsLeftNow p image = (s : Files) × Reads p.start p.calls s × IsImage s image
+
+-- A crash now leaves nothing that a crash then couldn't have left.
+abbrev pub LeavesNothingNew : Option Past → Option Past → Type 0
+LeavesNothingNew None new = Unit {0}
+LeavesNothingNew (Some old) None = ⊥
+LeavesNothingNew (Some old) (Some new) = (image : Image) → IsLeftNow new image → IsLeftNow old image
 
 -- t is this moment, and the moments of the calls rise
 pub record IsAt (t : ℕ) (p : Past) : Type 0 where

@@ -17,3 +17,4 @@ pub mod Plain
 pub mod Configs
 pub mod Texts
 pub mod Script
+pub mod Headline

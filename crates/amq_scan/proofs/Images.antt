@@ -96,7 +96,7 @@ stands_on pending old new fid version s torn outside h = record {
   spelled = same_part old new s.place s.len h.within torn.len (λ i from to. torn.same i (omega (arith, to, h.within)) (outside i from to)) ∙ h.spelled;
 }
 
-scan_stands : (bytes : List ℕ) (fid version from : ℕ) (ss : List Spot) (s : Spot) → IsScanFrom bytes fid version from ss → Has ss s → RecordAt bytes fid version s
+pub scan_stands : (bytes : List ℕ) (fid version from : ℕ) (ss : List Spot) (s : Spot) → IsScanFrom bytes fid version from ss → Has ss s → RecordAt bytes fid version s
 scan_stands bytes fid version from [] s scan h = absurd h
 scan_stands bytes fid version from (t ∷ ts) s scan (inl e) = subst (RecordAt bytes fid version) e scan.2
 scan_stands bytes fid version from (t ∷ ts) s scan (inr h) = scan_stands bytes fid version (t.place + t.len) ts s scan.3 h

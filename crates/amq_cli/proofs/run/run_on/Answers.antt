@@ -1,4 +1,4 @@
-use Rattle.std.proofs.Common.{◌≡◌, List, [], sym, subst, ◌∙◌, rules}
+use Rattle.std.proofs.Common.{◌≡◌, ℕ, List, [], sym, subst, ◌∙◌, rules}
 use Rattle.amq_model.specs.declared.history.Step.{Step}
 use Rattle.amq_model.specs.declared.config.Config.{Config}
 use Rattle.amq_model.specs.Answers.{history_of}
@@ -6,7 +6,9 @@ use Rattle.amq_model.specs.Leaves.{Told}
 use Rattle.amq_engine.specs.Engine.{data_name}
 use Rattle.amq_engine.specs.OneFile.{IsJournalFile}
 use Rattle.amq_cli.specs.Replay.{IsReplayed}
-use Rattle.amq_cli.specs.Offline.{HasRunOn, defaults}
+use Rattle.amq_cli.specs.Offline.{HasRunOn, defaults, lists_of}
+use Rattle.amq_engine.specs.Receipts.{IsCrashSafe}
+use Rattle.amq_cli.proofs.Recovering.{safe_still}
 use Rattle.amq_cli.proofs.Noted.{receipted_steps}
 use Rattle.amq_cli.proofs.Reloading.{has_run_on, never_done, closed_so}
 use Rattle.amq_cli.proofs.run.run_on.Goals as goal
@@ -30,4 +32,17 @@ returns-clause-run g c =
           subst (λ d. HasRunOn commands c.match-played.text.items (g.D.Disk.past d) base steps) (sym w.disk-is) (subst (λ t. HasRunOn commands t.items (g.D.Disk.past w.add_report.new.disk) base steps) (sym w.text-is) ran))
       | in-Ok+in-Err-closed w ↦ (λ done. absurd (never_done _ (sym w.status_of_refusal.ensures ∙ sym w.status-is ∙ done)))
       | in-Err w ↦ (λ done. absurd (never_done _ (sym w.status_of_refusal-status.ensures ∙ sym w.status-is ∙ done)))
+    ]
+
+pub returns-clause-crash_safe : goal.returns-clause-crash_safe
+returns-clause-crash_safe g c =
+    let kept = lists_of c.close-disk.result.1 in
+    let user_version : c.replay-played.new.engine.config.user_version ≡ 0 = search rules in
+    let closed : IsCrashSafe (g.D.Disk.past c.close-disk.result.0) (g.D.Disk.moment c.close-disk.result.0) 0 kept =
+    subst (λ (n : ℕ). IsCrashSafe (g.D.Disk.past c.close-disk.result.0) (g.D.Disk.moment c.close-disk.result.0) n kept) user_version c.close-disk.ensures.crash_safe in
+    elim c.match-played.branch [
+      | in-Ok+in-Ok-closed w ↦ subst (λ d. IsCrashSafe (g.D.Disk.past d) (g.D.Disk.moment d) 0 kept) (sym w.disk-is)
+          (safe_still (g.D.Disk.past c.close-disk.result.0) (g.D.Disk.past w.add_report.new.disk) (g.D.Disk.moment c.close-disk.result.0) (g.D.Disk.moment w.add_report.new.disk) 0 kept w.add_report.ensures.only_asks w.add_report.ensures.moment closed)
+      | in-Ok+in-Err-closed w ↦ subst (λ d. IsCrashSafe (g.D.Disk.past d) (g.D.Disk.moment d) 0 kept) (sym w.disk-is) closed
+      | in-Err w ↦ subst (λ d. IsCrashSafe (g.D.Disk.past d) (g.D.Disk.moment d) 0 kept) (sym w.disk-is) closed
     ]

@@ -6,7 +6,9 @@ use Rattle.amq_model.specs.Leaves.{Leaves}
 use Rattle.amq_engine.specs.Lists.{with_base, with_receipt}
 use Rattle.amq_engine.specs.Prepare.{Prepares, Prepared}
 use Rattle.amq_engine.specs.Engine.{data_name, temporary_name}
-use Rattle.amq_engine.proofs.Begun.{empty_told, some_told, begun_is}
+use Rattle.amq_io.specs.Faults.{as_error}
+use Rattle.amq_engine.specs.OneFile.{header_of}
+use Rattle.amq_engine.proofs.Begun.{empty_told, some_told, begun_is, begun_safe, listed_nothing_new, some_if}
 use Rattle.amq_engine.proofs.Commands.{when_ok}
 use Rattle.amq_engine.proofs.opening.begin.Goals as goal
 
@@ -31,10 +33,61 @@ returns-in-Ok-prepare-clause-begun g c =
     let based : lists c.base.new.self ≡ option_map (with_base []) (lists c.room.new.self) = search rules in
     let noted : lists c.receipt.new.self ≡ option_map (with_receipt 0 c.moment-moment.result) (option_map (with_base []) (lists c.args.chronicle.now)) = cc in
     begun_is config (omega (arith, c.requires.config.file_size_least)) c.in-Ok.infos.items (past c.args.disk.now) (past c.list.new.disk) (past c.prepare.new.disk) none c.in-Ok.ensures.listed c.in-Ok.ensures.note went
-    c.moment-moment.result c.moment-moment.ensures.told (lists c.args.chronicle.now) (lists c.receipt.new.self) (room c.receipt.new.self) c.requires.blank noted (omega (arith, two, c.base.ensures.receipts, c.receipt.ensures.receipts))
+    c.moment-moment.result (g.D.Disk.moment c.prepare.new.disk) c.moment-moment.ensures.told (omega (arith, c.moment-moment.ensures.count, c.prepare.ensures.later)) (lists c.args.chronicle.now) (lists c.receipt.new.self) (room c.receipt.new.self) c.requires.blank noted (omega (arith, two, c.base.ensures.receipts, c.receipt.ensures.receipts))
 
 pub returns-in-Ok-prepare-clause-empty : goal.returns-in-Ok-prepare-clause-empty
 returns-in-Ok-prepare-clause-empty g c =
     let none_len : vec_len c.in-Ok.infos ≡ 0 = eqb-true _ _ (sym c.if-not-is_empty.ensures) in
     let len_is : vec_len c.in-Ok.infos ≡ length c.in-Ok.infos.items = search rules in
     empty_told c.in-Ok.infos.items (g.D.Disk.past c.args.disk.now) (nil_from_length c.in-Ok.infos.items (sym len_is ∙ none_len)) c.in-Ok.ensures.listed
+
+-- until there is a receipt, only a list was asked for
+pub returns-in-Err-clause-nothing_new : goal.returns-in-Err-clause-nothing_new
+returns-in-Err-clause-nothing_new g c = listed_nothing_new (as_error c.list.result) (g.C.Chronicle.lists c.args.chronicle.now) (g.D.Disk.past c.args.disk.now) (g.D.Disk.past c.list.new.disk) c.list.ensures.note
+
+pub returns-then-not-is_empty-clause-nothing_new : goal.returns-then-not-is_empty-clause-nothing_new
+returns-then-not-is_empty-clause-nothing_new g c = listed_nothing_new (as_error c.list.result) (g.C.Chronicle.lists c.args.chronicle.now) (g.D.Disk.past c.args.disk.now) (g.D.Disk.past c.list.new.disk) c.list.ensures.note
+
+pub returns-then-is_err-clause-nothing_new : goal.returns-then-is_err-clause-nothing_new
+returns-then-is_err-clause-nothing_new g c = listed_nothing_new (as_error c.list.result) (g.C.Chronicle.lists c.then-is_err.chronicle) (g.D.Disk.past c.args.disk.now) (g.D.Disk.past c.list.new.disk) c.list.ensures.note
+
+pub returns-in-Ok-prepare-clause-crash_safe : goal.returns-in-Ok-prepare-clause-crash_safe
+returns-in-Ok-prepare-clause-crash_safe g c =
+    let past = g.D.Disk.past in
+    let lists = g.C.Chronicle.lists in
+    let config = c.args.config.now in
+    let none_len : vec_len c.in-Ok.infos ≡ 0 = eqb-true _ _ (sym c.if-not-is_empty.ensures) in
+    let len_is : vec_len c.in-Ok.infos ≡ length c.in-Ok.infos.items = search rules in
+    let none : c.in-Ok.infos.items ≡ [] = nil_from_length c.in-Ok.infos.items (sym len_is ∙ none_len) in
+    let P : List ℕ → Type 0 = λ h. Leaves (Prepares temporary_name data_name config.file_size 74 h) (Prepares temporary_name data_name config.file_size 74 h) (past c.list.new.disk) (past c.prepare.new.disk) in
+    let went = subst P c.header-header.ensures c.prepare.ensures.crash in
+    let based : lists c.base.new.self ≡ option_map (with_base []) (lists c.room.new.self) = search rules in
+    let noted : lists c.receipt.new.self ≡ option_map (with_receipt 0 c.moment-moment.result) (option_map (with_base []) (lists c.args.chronicle.now)) = cc in
+    begun_safe config (omega (arith, c.requires.config.file_size_least)) c.in-Ok.infos.items (past c.args.disk.now) (past c.list.new.disk) (past c.prepare.new.disk) none c.in-Ok.ensures.listed c.in-Ok.ensures.note
+    (Prepares temporary_name data_name config.file_size 74 (header_of config.user_version 1)) went
+    c.moment-moment.result (g.D.Disk.moment c.prepare.new.disk) c.requires.config c.moment-moment.ensures.told (omega (arith, c.moment-moment.ensures.count, c.prepare.ensures.later)) (lists c.args.chronicle.now) (lists c.receipt.new.self) c.requires.blank noted
+
+pub returns-clause-crash_safe : goal.returns-clause-crash_safe
+returns-clause-crash_safe g c =
+    let past = g.D.Disk.past in
+    let lists = g.C.Chronicle.lists in
+    let config = c.args.config.now in
+    let none_len : vec_len c.in-Ok.infos ≡ 0 = eqb-true _ _ (sym c.if-not-is_empty.ensures) in
+    let len_is : vec_len c.in-Ok.infos ≡ length c.in-Ok.infos.items = search rules in
+    let none : c.in-Ok.infos.items ≡ [] = nil_from_length c.in-Ok.infos.items (sym len_is ∙ none_len) in
+    let P : List ℕ → Type 0 = λ h. Leaves (Prepares temporary_name data_name config.file_size 74 h) (Prepares temporary_name data_name config.file_size 74 h) (past c.list.new.disk) (past c.prepare.new.disk) in
+    let went = subst P c.header-header.ensures c.prepare.ensures.crash in
+    let based : lists c.base.new.self ≡ option_map (with_base []) (lists c.room.new.self) = search rules in
+    let noted : lists c.receipt.new.self ≡ option_map (with_receipt 0 c.moment-moment.result) (option_map (with_base []) (lists c.args.chronicle.now)) = cc in
+    begun_safe config (omega (arith, c.requires.config.file_size_least)) c.in-Ok.infos.items (past c.args.disk.now) (past c.list.new.disk) (past c.prepare.new.disk) none c.in-Ok.ensures.listed c.in-Ok.ensures.note
+    (Prepares temporary_name data_name config.file_size 74 (header_of config.user_version 1)) went
+    c.moment-moment.result (g.D.Disk.moment c.prepare.new.disk) c.requires.config c.moment-moment.ensures.told (omega (arith, c.moment-moment.ensures.count, c.prepare.ensures.later)) (lists c.args.chronicle.now) (lists c.receipt.new.self) c.requires.blank noted
+
+pub returns-in-Ok-prepare-clause-failed_empty : goal.returns-in-Ok-prepare-clause-failed_empty
+returns-in-Ok-prepare-clause-failed_empty g c = some_if (λ l. l.receipts ≡ []) _ (g.C.Chronicle.lists c.receipt.new.self) (returns-in-Ok-prepare-clause-empty g c)
+
+pub returns-clause-failed_empty : goal.returns-clause-failed_empty
+returns-clause-failed_empty g c =
+    let none_len : vec_len c.in-Ok.infos ≡ 0 = eqb-true _ _ (sym c.if-not-is_empty.ensures) in
+    let len_is : vec_len c.in-Ok.infos ≡ length c.in-Ok.infos.items = search rules in
+    some_if (λ l. l.receipts ≡ []) _ (g.C.Chronicle.lists c.receipt.new.self) (empty_told c.in-Ok.infos.items (g.D.Disk.past c.args.disk.now) (nil_from_length c.in-Ok.infos.items (sym len_is ∙ none_len)) c.in-Ok.ensures.listed)

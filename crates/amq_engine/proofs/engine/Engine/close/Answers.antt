@@ -14,6 +14,6 @@ returns-clause-content g c =
     let config : e.config ≡ c.args.self.config = ap (λ v. v.config) c.self.view_is ∙ c.flush-outcome.ensures.same.1 in
     let P : Config → Type 0 = λ k. OnOk c.flush-outcome.result (IfSome (g.C.Chronicle.lists e.chronicle) (λ l. Told (g.D.Disk.past e.disk) (IsJournalFile data_name k.user_version k.file_size (history_of l.steps)))) in
     subst P config (when_done c.flush-outcome.result _ _
-    (λ count done. sound_journal (g.D.Disk.past e.disk) (g.C.Chronicle.lists e.chronicle) (g.C.Chronicle.receipt_room e.chronicle) e.config e.live e.buffer.items e.end e.appended e.durable c.self.invariant
+    (λ count done. sound_journal (g.D.Disk.past e.disk) (g.C.Chronicle.lists e.chronicle) (g.C.Chronicle.receipt_room e.chronicle) e.config e.live e.buffer.items e.end e.appended e.durable c.self.invariant.sound
     (ap (λ v. v.durable) c.self.view_is ∙ done.1 ∙ sym c.flush-outcome.ensures.same.0 ∙ sym (ap (λ v. v.appended) c.self.view_is)))
     c.flush-outcome.ensures.ok)

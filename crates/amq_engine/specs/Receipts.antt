@@ -1,0 +1,42 @@
+-- The receipts of a chronicle: how they follow each other, and what a crash leaves since each.
+use Rattle.std.specs.Prelude.{◌≡◌, ℕ, ◌+◌, ◌-◌, ◌^◌, ◌<◌, ◌≤◌, List, [], ◌∷◌, Option, All}
+use Rattle.amq_model.specs.Answers.{history_of}
+use Rattle.amq_model.specs.Calls.{Past}
+use Rattle.amq_model.specs.Headline.{RecoversSince}
+use Rattle.amq_engine.specs.declared.chronicle.Receipted.{Receipted}
+use Rattle.amq_engine.specs.Lists.{Lists}
+
+-- A receipt behind another: neither count nor moment falls, and a greater count comes two calls later at least, a write and a sync.
+pub record Follows (r s : Receipted) : Type 0 where
+  pub counts : r.durable ≤ s.durable
+  pub moments : r.moment ≤ s.moment
+  pub apart : r.durable < s.durable → s.moment < 2 ^ 64 - 1 → r.moment + 2 ≤ s.moment
+
+-- the receipts behind one, the last of which isn't later than this moment
+abbrev pub FollowUpTo : ℕ → Receipted → List Receipted → Type 0
+FollowUpTo moment r [] = r.moment ≤ moment
+FollowUpTo moment r (s ∷ ss) = Follows r s × FollowUpTo moment s ss
+
+-- The first receipt, where there is one, has count 0, each follows the one before, and none is later than this moment.
+abbrev pub AreInOrder : ℕ → List Receipted → Type 0
+AreInOrder moment [] = Unit {0}
+AreInOrder moment (r ∷ rs) = (r.durable ≡ 0) × FollowUpTo moment r rs
+
+-- of a receipt and those behind it, the last has this count
+abbrev pub EndsWith : ℕ → Receipted → List Receipted → Type 0
+EndsWith count r [] = r.durable ≡ count
+EndsWith count r (s ∷ ss) = EndsWith count s ss
+
+-- there is a receipt, and the last one has this count
+abbrev pub IsLastCount : ℕ → List Receipted → Type 0
+IsLastCount count [] = ⊥
+IsLastCount count (r ∷ rs) = EndsWith count r rs
+
+-- The headline, for every receipt: whatever a crash since it may leave, and in which no false record is found, loads to the result of the base and a kept part of the history, with all that the receipt counts. Nothing is claimed of a receipt at the greatest moment.
+abbrev pub IsRecovered : Option Past → ℕ → Lists → Type 0
+IsRecovered past wanted l = All (λ r. r.moment < 2 ^ 64 - 1 → RecoversSince past r.moment wanted l.base (history_of l.steps) r.durable) l.receipts
+
+-- what is always so of a chronicle and the disk that it is about, at this moment
+pub record IsCrashSafe (past : Option Past) (moment wanted : ℕ) (l : Lists) : Type 0 where
+  pub recovers : IsRecovered past wanted l
+  pub receipts : AreInOrder moment l.receipts
