@@ -1,5 +1,6 @@
 pub mod Called
 pub mod Ordered
+pub mod Picking
 pub mod Pieces
 pub mod Places
 pub mod Recorded

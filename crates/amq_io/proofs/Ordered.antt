@@ -12,7 +12,7 @@ use Rattle.std.specs.FinMap as map
 use Rattle.amq_model.specs.Files.{FileName, File}
 use Rattle.amq_io.specs.declared.entries.Entry.{Entry}
 use Rattle.amq_io.specs.declared.disk.FileInfo.{FileInfo}
-use Rattle.amq_io.specs.Entries.{file_of, files_of}
+use Rattle.amq_io.specs.Entries.{files_of}
 use Rattle.amq_io.specs.Listing.{listed_of, info_of, IsPlace}
 
 abbrev Put : FileName → ℕ → List (FileName × ℕ) → List (FileName × ℕ)
@@ -54,14 +54,14 @@ list_none [] infos few none =
 list_none (e ∷ es) infos few none = absurd (omega (arith, few))
 
 pub list_more : (files : List Entry) (e : Entry) (old new : List FileInfo) (info : FileInfo) → 1 ≤ length files → e ≡ get_or files 0 e → map_of listed_of old ≡ map_of info_of (map.entries (files_of (take (length files - 1) (drop 1 files))))
-    → info.name ≡ e.name → info.len ≡ length e.bytes.items → map_of listed_of new ≡ map.put (slice_cmp nat_cmp) info.name info.len (map_of listed_of old)
+    → info.name ≡ e.name → info.len ≡ length e.file.read.bytes → map_of listed_of new ≡ map.put (slice_cmp nat_cmp) info.name info.len (map_of listed_of old)
     → map_of listed_of new ≡ map_of info_of (map.entries (files_of files))
 list_more [] e old new info some is was named long put = absurd (omega (arith, some))
 list_more (e' ∷ es) e old new info some is was named long put =
     let rest : take (length (e' ∷ es) - 1) (drop 1 (e' ∷ es)) ≡ es = take_all (length (e' ∷ es) - 1) es (omega arith) in
     put
     ∙ ap (λ (k : List ℕ). Put k info.len (map_of listed_of old)) (named ∙ ap (λ (e : Entry). e.name) is)
-    ∙ ap (λ (l : ℕ). Put e'.name l (map_of listed_of old)) (long ∙ ap (λ (e : Entry). length e.bytes.items) is)
-    ∙ ap (λ (l : List (FileName × ℕ)). Put e'.name (length e'.bytes.items) l) (was ∙ ap (λ (l : List Entry). map_of info_of (map.entries (files_of l))) rest)
-    ∙ sym (map-put e'.name (file_of e') (map.entries (files_of es)))
-    ∙ ap (map_of info_of) (sym (map.entries-insert nat_list_cmp_total (files_of es) e'.name (file_of e')))
+    ∙ ap (λ (l : ℕ). Put e'.name l (map_of listed_of old)) (long ∙ ap (λ (e : Entry). length e.file.read.bytes) is)
+    ∙ ap (λ (l : List (FileName × ℕ)). Put e'.name (length e'.file.read.bytes) l) (was ∙ ap (λ (l : List Entry). map_of info_of (map.entries (files_of l))) rest)
+    ∙ sym (map-put e'.name e'.file.read (map.entries (files_of es)))
+    ∙ ap (map_of info_of) (sym (map.entries-insert nat_list_cmp_total (files_of es) e'.name e'.file.read))

@@ -1,6 +1,6 @@
 -- What a disk in memory reads at first.
 use Rattle.std.proofs.Common.{◌≡◌, ◌≢◌, ℕ, suc, List, [], ◌∷◌, None, Some, refl, sym, ◌∙◌, ap, subst, arith, get_or, Vec, Global}
-use Rattle.std.specs.Prelude.{map as map_of, All}
+use Rattle.std.specs.Prelude.{map as map_of, All, Result, Ok, Err, IfOk}
 use Rattle.std.specs.List.{AllPairs}
 use Rattle.std.specs.FinMap as map
 use Rattle.std.specs.Cmp.Lexicographic.{slice_cmp}
@@ -9,18 +9,10 @@ use Rattle.std.proofs.lemmas.List.Elements.{All-nil, All-cons, All-head, All-tai
 use Rattle.std.proofs.lemmas.List.Kept.{AllPairs-cons}
 use Rattle.amq_model.specs.Files.{FileName, File, Files}
 use Rattle.amq_model.proofs.Lookups.{get-insert_same, get-insert_other}
-use Rattle.amq_io.specs.declared.entries.Entry.{Entry}
-use Rattle.amq_io.specs.Entries.{pair_of, files_of, durable_pair}
-use Rattle.amq_io.specs.MemoryDisk.{from_pairs, HoldsFiles}
-
--- the directory of entries, made of the pairs
-pub files_from : (es : List Entry) → files_of es ≡ from_pairs (map_of pair_of es)
-files_from [] = refl
-files_from (e ∷ es) = ap (λ (s : Files). map.insert s e.name (pair_of e).1) (files_from es)
-
--- a copy of the entries stands for the same directory
-pub copied_is : (start files : List Entry) → map_of pair_of files ≡ map_of pair_of start → files_of files ≡ from_pairs (map_of pair_of start)
-copied_is start files same = files_from files ∙ ap from_pairs same
+use Rattle.amq_io.specs.Versions.{Versions}
+use Rattle.amq_io.specs.Entries.{files_by, durable_pair, durable_entry}
+use Rattle.amq_model.specs.Calls.{content}
+use Rattle.amq_io.specs.MemoryDisk.{Memory, content_of, from_pairs, HoldsFiles, IsFresh}
 
 abbrev Named : Type 0
 Named = FileName × List ℕ
@@ -65,13 +57,30 @@ plain_differ [] differ = λ i j d below within. absurd (omega (arith, within))
 plain_differ (f ∷ fs) differ =
     AllPairs-cons Differ (plain f) (map_of plain fs) (All-map (Differ (plain f)) plain fs (pairs_head (λ a b. a.0 ≢ b.0) f fs differ)) (plain_differ fs (pairs_tail (λ a b. a.0 ≢ b.0) f fs differ))
 
-made_durable : (files : List Given) → map_of (λ e. durable_pair e.0 e.1.items) files ≡ map_of durable (map_of plain files)
-made_durable [] = refl
-made_durable (f ∷ fs) = ap (λ (l : List (FileName × File)). durable (plain f) ∷ l) (made_durable fs)
+plain_start : (files : List Given) → map_of (λ f. durable_pair f.0 f.1.items) files ≡ map_of durable (map_of plain files)
+plain_start [] = refl
+plain_start (f ∷ fs) = ap (λ (l : List (FileName × File)). durable (plain f) ∷ l) (plain_start fs)
+
+-- entries made of the files stand for it, whichever version is taken
+pub entries_start : (version : Versions → File) → ((bytes : List ℕ) → version (record { read = record { bytes = bytes; pending = [] }; synced = bytes }) ≡ record { bytes = bytes; pending = [] }) → (files : List Given)
+    → files_by version (map_of (λ f. durable_entry f.0 f.1.items) files) ≡ from_pairs (map_of (λ f. durable_pair f.0 f.1.items) files)
+entries_start version is [] = refl
+entries_start version is (f ∷ fs) =
+    ap (λ (s : Files). map.insert s f.0 (version (durable_entry f.0 f.1.items).file)) (entries_start version is fs) ∙ ap (map.insert (from_pairs (map_of (λ f. durable_pair f.0 f.1.items) fs)) f.0) (is f.1.items)
 
 -- entries made of files whose names differ
-pub holds_given : (files : List Given) (start : List Entry) → AllPairs (λ a b. a.0 ≢ b.0) files → map_of pair_of start ≡ map_of (λ e. durable_pair e.0 e.1.items) files
-    → HoldsFiles (map_of plain files) (from_pairs (map_of pair_of start))
-holds_given files start differ made =
+pub holds_given : (files : List Given) → AllPairs (λ a b. a.0 ≢ b.0) files → HoldsFiles (map_of plain files) (from_pairs (map_of (λ f. durable_pair f.0 f.1.items) files))
+holds_given files differ =
     let P : List (FileName × File) → Type 0 = λ l. HoldsFiles (map_of plain files) (from_pairs l) in
-    subst P (sym (made ∙ made_durable files)) (holds (map_of plain files) (plain_differ files differ))
+    subst P (sym (plain_start files)) (holds (map_of plain files) (plain_differ files differ))
+
+-- what a disk reads on which no call was made
+pub fresh_content : (d : Memory) (start : List (FileName × File)) → d.calls ≡ [] → d.start ≡ start → content_of d ≡ from_pairs start
+fresh_content d start none is = ap (content (from_pairs d.start)) none ∙ ap from_pairs is
+
+pub holds_started : {E : Type 0} (r : Result Memory E) (files : List Given) → AllPairs (λ a b. a.0 ≢ b.0) files → IfOk r IsFresh → IfOk r (λ d. d.start ≡ map_of (λ f. durable_pair f.0 f.1.items) files)
+    → IfOk r (λ d. HoldsFiles (map_of plain files) (content_of d))
+holds_started (Ok d) files differ fresh start =
+    let P : Files → Type 0 = λ s. HoldsFiles (map_of plain files) s in
+    subst P (sym (fresh_content d _ fresh.calls start)) (holds_given files differ)
+holds_started (Err e) files differ fresh start = tt

@@ -3,26 +3,37 @@ use Rattle.std.specs.Prelude.{◌≡◌, ℕ, zero, suc, ◌+◌, ◌≤◌, Lis
 use Rattle.std.specs.FinMap as map
 use Rattle.amq_model.specs.Files.{FileName, File, Files}
 use Rattle.amq_model.specs.Calls.{Call, listing, reading, creating, writing, syncing, renaming, removing}
+use Rattle.amq_io.specs.Versions.{Versions}
+use Rattle.amq_io.specs.Synced.{durable}
 use Rattle.amq_io.specs.declared.entries.Entry.{Entry}
 use Rattle.amq_io.specs.declared.asked.Asked.{Asked}
 use Rattle.amq_io.specs.declared.asked.Asked.TheVariants as asked
 
--- an entry's file
-abbrev pub file_of : Entry → File
-file_of e = record { bytes = e.bytes.items; pending = e.pending.items }
+-- The directory of entries, with one of their versions. At a name that stands twice, the first entry counts.
+abbrev pub files_by : (Versions → File) → List Entry → Files
+files_by version [] = map.empty
+files_by version (e ∷ es) = map.insert (files_by version es) e.name (version e.file)
 
--- an entry's file, under its name
-abbrev pub pair_of : Entry → FileName × File
-pair_of e = (e.name, file_of e)
+-- the directory as it reads
+abbrev pub files_of : List Entry → Files
+files_of es = files_by (λ v. v.read) es
+
+-- the directory as it was last synced
+abbrev pub synced_of : List Entry → Files
+synced_of es = files_by (λ v. durable v.synced) es
+
+-- both are the same
+pub record IsUnchanged (old new : List Entry) : Type 0 where
+  pub read : files_of new ≡ files_of old
+  pub synced : synced_of new ≡ synced_of old
 
 -- a file of which nothing is pending, under its name
 abbrev pub durable_pair : FileName → List ℕ → FileName × File
-durable_pair name bytes = (name, record { bytes = bytes; pending = [] })
+durable_pair name bytes = (name, durable bytes)
 
--- At a name that stands twice, the first entry counts.
-abbrev pub files_of : List Entry → Files
-files_of [] = map.empty
-files_of (e ∷ es) = map.insert (files_of es) e.name (file_of e)
+-- an entry of it
+abbrev pub durable_entry : FileName → List ℕ → Entry
+durable_entry name bytes = record { name = name; file = record { read = durable bytes; synced = bytes } }
 
 -- the first entry of that name stands at i
 abbrev pub IsFirst : FileName → List Entry → ℕ → Type 0

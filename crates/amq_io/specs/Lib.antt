@@ -1,9 +1,13 @@
 pub mod Cause
 pub mod Entries
 pub mod Faults
+pub mod Left
 pub mod Listed
 pub mod Listing
 pub mod MemoryDisk
+pub mod MemoryFile
 pub mod Notes
 pub mod Streams
+pub mod Synced
 pub mod Torn
+pub mod Versions

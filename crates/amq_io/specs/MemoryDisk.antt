@@ -2,8 +2,10 @@
 use Rattle.std.specs.Prelude.{◌≡◌, ◌≢◌, ℕ, Bool, true, false, List, [], ◌∷◌, Option, None, Some, All}
 use Rattle.std.specs.FinMap as finite
 use Rattle.amq_model.specs.declared.refusal.DiskCall.{DiskCall}
-use Rattle.amq_model.specs.Files.{FileName, File, Files}
+use Rattle.amq_model.specs.Files.{FileName, File, Files, Image, IsReading}
 use Rattle.amq_model.specs.Calls.{Outcome, fine, broken, undone, Past, Event, content}
+use Rattle.amq_model.specs.Crash.{MayLeave}
+use Rattle.amq_io.specs.Synced.{last_synced}
 use Rattle.amq_io.specs.declared.asked.PastCall.{PastCall}
 use Rattle.amq_io.specs.Entries.{call_of}
 
@@ -36,6 +38,14 @@ past_of m = record { start = from_pairs m.start; calls = m.calls; moment = m.mom
 -- what it reads
 abbrev pub content_of : Memory → Files
 content_of m = content (from_pairs m.start) m.calls
+
+-- the directory with each file as it was last synced
+abbrev pub last_synced_of : Memory → Files
+last_synced_of m = last_synced (from_pairs m.start) m.calls
+
+-- What the new disk reads is one of the things that a crash of the old one at this moment may leave.
+abbrev pub MayBeLeft : Memory → Memory → Type 0
+MayBeLeft old new = (reading image : Image) → IsReading (content_of old) reading → IsReading (content_of new) image → MayLeave (Some (past_of old)) old.moment reading image
 
 -- these files are there, nothing of them is pending, and no other file is there
 pub record HoldsFiles (files : List (FileName × List ℕ)) (s : Files) : Type 0 where

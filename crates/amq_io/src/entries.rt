@@ -1,21 +1,21 @@
 //! The files of a disk in memory, as entries in any order.
-ghost use Rattle.std.specs.Prelude.{◌≡◌, ◌+◌, ◌≤◌, ◌<◌, [], ◌∷◌, ◌++◌, length, map as map_of, take, drop, replicate, option_map, IfSome, IfOk, IfNone, OnOk, OnErr, vec_len, vec_capacity};
+ghost use Rattle.std.specs.Prelude.{◌≡◌, ◌+◌, ◌≤◌, ◌<◌, [], ◌∷◌, length, map as map_of, replicate, option_map, IfSome, IfOk, IfNone, OnOk, OnErr, vec_len, vec_capacity};
 ghost use Rattle.std.specs.FinMap as map;
-ghost use Rattle.amq_model.specs.Files.{overlaid, created, written, pended, synced, renamed, removed};
+ghost use Rattle.amq_model.specs.Files.{created, written, pended, synced, renamed, removed};
+ghost use Rattle.amq_io.specs.Synced.{durable, settled};
 
+use crate::memory_file::MemoryFile;
 use amq_model::Name;
 use std::alloc::{AllocError, Global};
 
-/// A file: its name, its bytes as the disk reads them, and the ranges that are pending, each with its
-/// place and its length, the newest first.
+/// A file under its name.
 #[derive(Drop)]
 pub struct Entry {
     pub name: Name,
-    pub bytes: Vec<u8>,
-    pub pending: Vec<(u64, u64)>,
+    pub file: MemoryFile,
 }
 
-ghost use Rattle.amq_io.specs.Entries.{file_of, files_of, pair_of, durable_pair, IsFirst, IsAbsent};
+ghost use Rattle.amq_io.specs.Entries.{files_of, synced_of, durable_entry, IsFirst, IsAbsent, IsUnchanged};
 
 /// An equal name.
 pub fn copy_name(name: &Name) -> Result<Name, AllocError>
@@ -49,22 +49,12 @@ fn find(files: &[Entry], name: &str) -> Option<usize>
 
 fn fresh(alloc: Global, name: &Name, len: u64, fill: u8) -> Result<Entry, AllocError>
     ensures name { IfOk result (λ e. e.name ≡ name.now) }
-    ensures file { IfOk result (λ e. file_of e ≡ record { bytes = replicate len fill; pending = (0, len) ∷ [] }) }
+    ensures file { IfOk result (λ e. e.file ≡ record { read = record { bytes = replicate len fill; pending = (0, len) ∷ [] }; synced = replicate len 0 }) }
 {
-    let mut pending = Vec::new(alloc);
-    pending.push((0, len))?;
     Ok(Entry {
         name: copy_name(name)?,
-        bytes: Vec::from_elem(alloc, fill, len as usize)?,
-        pending,
+        file: MemoryFile::fresh(alloc, len, fill)?,
     })
-}
-
-fn overlay(bytes: &mut Vec<u8>, place: usize, with: &[u8])
-    requires { place + length with.now ≤ length bytes.old.items }
-    ensures { bytes.new.items ≡ overlaid bytes.old.items place with.now }
-{
-    bytes[place..place + with.len()].copy_from_slice(with);
 }
 
 /// A new file, all of it pending. It replaces one of that name.
@@ -76,7 +66,8 @@ pub fn create(
     fill: u8,
 ) -> Result<(), AllocError>
     ensures ok { OnOk result (files_of files.new.items ≡ created name.now len fill (files_of files.old.items)) }
-    ensures err { OnErr result (files_of files.new.items ≡ files_of files.old.items) }
+    ensures synced { OnOk result (synced_of files.new.items ≡ map.insert (synced_of files.old.items) name.now (durable (replicate len 0))) }
+    ensures err { OnErr result (IsUnchanged files.old.items files.new.items) }
 {
     let entry = fresh(alloc, name, len, fill)?;
     match find(files, name.as_str()) {
@@ -87,44 +78,60 @@ pub fn create(
 }
 
 /// Other bytes at a place, which are pending.
-pub fn write(files: &mut Vec<Entry>, name: &str, place: u64, bytes: &[u8]) -> Result<(), AllocError>
+pub fn write(
+    alloc: Global,
+    files: &mut Vec<Entry>,
+    name: &str,
+    place: u64,
+    bytes: &[u8],
+) -> Result<(), AllocError>
     requires { IfSome (map.get (files_of files.old.items) name.now) (λ f. place + length bytes.now ≤ length f.bytes) }
     ensures ok { OnOk result (files_of files.new.items ≡ written name.now place bytes.now (files_of files.old.items)) }
-    ensures err { OnErr result (files_of files.new.items ≡ files_of files.old.items) }
+    ensures synced { synced_of files.new.items ≡ synced_of files.old.items }
+    ensures err { OnErr result (IsUnchanged files.old.items files.new.items) }
 {
     if let Some(i) = find(files, name) {
         let entry = &mut files[i];
-        entry.pending.insert(0, (place, bytes.len() as u64))?;
-        overlay(&mut entry.bytes, place as usize, bytes);
+        entry.file.write(alloc, place, bytes)?;
     }
     Ok(())
 }
 
 /// The range is pending, and nothing is written.
-pub fn pend(files: &mut Vec<Entry>, name: &str, place: u64, len: u64) -> Result<(), AllocError>
+pub fn pend(
+    alloc: Global,
+    files: &mut Vec<Entry>,
+    name: &str,
+    place: u64,
+    len: usize,
+) -> Result<(), AllocError>
+    requires { IfSome (map.get (files_of files.old.items) name.now) (λ f. place + len ≤ length f.bytes) }
     ensures ok { OnOk result (files_of files.new.items ≡ pended name.now place len (files_of files.old.items)) }
-    ensures err { OnErr result (files_of files.new.items ≡ files_of files.old.items) }
+    ensures synced { synced_of files.new.items ≡ synced_of files.old.items }
+    ensures err { OnErr result (IsUnchanged files.old.items files.new.items) }
 {
     if let Some(i) = find(files, name) {
         let entry = &mut files[i];
-        entry.pending.insert(0, (place, len))?;
+        entry.file.pend(alloc, place, len)?;
     }
     Ok(())
 }
 
 /// Nothing of the file is pending.
 pub fn sync(files: &mut Vec<Entry>, name: &str)
-    ensures { files_of files.new.items ≡ synced name.now (files_of files.old.items) }
+    ensures read { files_of files.new.items ≡ synced name.now (files_of files.old.items) }
+    ensures synced { synced_of files.new.items ≡ settled (map.get (files_of files.old.items) name.now) name.now (synced_of files.old.items) }
 {
     if let Some(i) = find(files, name) {
         let entry = &mut files[i];
-        entry.pending.clear();
+        entry.file.sync();
     }
 }
 
 /// No file has the name.
 pub fn remove(files: &mut Vec<Entry>, name: &str)
     ensures gone { files_of files.new.items ≡ removed name.now (files_of files.old.items) }
+    ensures synced { synced_of files.new.items ≡ removed name.now (synced_of files.old.items) }
     ensures room { vec_capacity files.new ≡ vec_capacity files.old }
     ensures len { vec_len files.new ≤ vec_len files.old }
 {
@@ -136,7 +143,8 @@ pub fn remove(files: &mut Vec<Entry>, name: &str)
 /// The file has another name, and replaces one of that name.
 pub fn rename(files: &mut Vec<Entry>, from: &str, to: &Name) -> Result<(), AllocError>
     ensures ok { OnOk result (files_of files.new.items ≡ renamed from.now to.now (files_of files.old.items)) }
-    ensures err { OnErr result (files_of files.new.items ≡ files_of files.old.items) }
+    ensures synced { OnOk result (synced_of files.new.items ≡ renamed from.now to.now (synced_of files.old.items)) }
+    ensures err { OnErr result (IsUnchanged files.old.items files.new.items) }
 {
     if let Some(i) = find(files, from) {
         let name = copy_name(to)?;
@@ -154,43 +162,30 @@ pub fn bytes_of(alloc: Global, files: &[Entry], name: &str) -> Result<Option<Vec
     ensures { IfOk result (λ o. option_map (λ v. v.items) o ≡ option_map (λ f. f.bytes) (map.get (files_of files.now) name.now)) }
 {
     match find(files, name) {
-        Some(i) => Ok(Some(files[i].bytes.to_vec(alloc)?)),
+        Some(i) => {
+            let entry = &files[i];
+            Ok(Some(entry.file.bytes().to_vec(alloc)?))
+        }
         None => Ok(None),
     }
 }
 
-/// Entries of these files, with nothing pending.
-pub fn entries_of(alloc: Global, files: Vec<(Name, Vec<u8>)>) -> Result<Vec<Entry>, AllocError>
-    ensures { IfOk result (λ v. map_of pair_of v.items ≡ map_of (λ e. durable_pair e.0 e.1.items) files.items) }
-{
-    let mut entries = Vec::new(alloc);
-    for (name, bytes) in files {
-        entries.push(Entry {
-            name,
-            bytes,
-            pending: Vec::new(alloc),
-        })?;
-    }
-    Ok(entries)
-}
-
-fn copy(alloc: Global, entry: &Entry) -> Result<Entry, AllocError>
-    ensures { IfOk result (λ e. pair_of e ≡ pair_of entry.now) }
+fn entry_of(alloc: Global, name: &Name, bytes: &[u8]) -> Result<Entry, AllocError>
+    ensures { IfOk result (λ e. e ≡ durable_entry name.now bytes.now) }
 {
     Ok(Entry {
-        name: copy_name(&entry.name)?,
-        bytes: entry.bytes.to_vec(alloc)?,
-        pending: entry.pending.to_vec(alloc)?,
+        name: copy_name(name)?,
+        file: MemoryFile::durable(alloc, bytes.to_vec(alloc)?),
     })
 }
 
-/// Equal entries.
-pub fn copies(alloc: Global, entries: &[Entry]) -> Result<Vec<Entry>, AllocError>
-    ensures { IfOk result (λ v. map_of pair_of v.items ≡ map_of pair_of entries.now) }
+/// Entries of these files, with nothing pending.
+pub fn entries_of(alloc: Global, files: &[(Name, Vec<u8>)]) -> Result<Vec<Entry>, AllocError>
+    ensures { IfOk result (λ v. v.items ≡ map_of (λ f. durable_entry f.0 f.1.items) files.now) }
 {
-    let mut copied = Vec::new(alloc);
-    for entry in entries {
-        copied.push(copy(alloc, entry)?)?;
+    let mut entries = Vec::new(alloc);
+    for file in files {
+        entries.push(entry_of(alloc, &file.0, &file.1)?)?;
     }
-    Ok(copied)
+    Ok(entries)
 }

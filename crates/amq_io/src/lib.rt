@@ -13,17 +13,19 @@ mod entries;
 pub mod faults;
 mod listing;
 mod memory_disk;
+mod memory_file;
 mod memory_sink;
 mod memory_source;
+mod pick;
 mod sink;
 mod source;
 
-pub use crash::Pick;
 pub use disk::{Disk, DiskError, FileInfo};
 pub use faults::DiskFault;
 pub use memory_disk::MemoryDisk;
 pub use memory_sink::MemorySink;
 pub use memory_source::MemorySource;
+pub use pick::Pick;
 pub use sink::{Sink, SinkError};
 pub use source::{Failed, Source};
 

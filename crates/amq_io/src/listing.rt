@@ -55,7 +55,7 @@ pub fn list(alloc: Global, files: &[Entry]) -> Result<Vec<FileInfo>, AllocError>
                 &mut listed,
                 FileInfo {
                     name: copy_name(&first.name)?,
-                    len: first.bytes.len() as u64,
+                    len: first.file.bytes().len() as u64,
                 },
             )?;
             Ok(listed)

@@ -1,20 +1,19 @@
-ghost use Rattle.std.specs.Prelude.{◌≡◌, ◌≢◌, [], map, option_map, OnOk, OnErr, IfOk, None, Some, Err};
+ghost use Rattle.std.specs.Prelude.{◌≡◌, ◌≢◌, [], map, option_map, OnOk, OnErr, IfOk, Some, Err};
 ghost use Rattle.std.specs.List.{AllPairs};
 ghost use Rattle.std.specs.FinMap as finite;
 ghost use Rattle.amq_model.specs.Calls.{after, counted, passed};
 ghost use Rattle.amq_io.specs.Notes.{Notes};
 ghost use Rattle.amq_io.specs.Cause.{HasCause};
-ghost use Rattle.amq_io.specs.Entries.{files_of, call_of, IsInside};
+ghost use Rattle.amq_io.specs.Entries.{files_of, synced_of, durable_pair, call_of, IsInside, IsUnchanged};
+ghost use Rattle.amq_io.specs.Synced.{synced_by};
 ghost use Rattle.amq_io.specs.Torn.{IsLeftOf};
-ghost use Rattle.amq_io.specs.MemoryDisk.{outcome_of, past_of, content_of, HoldsFiles, IsFresh};
+ghost use Rattle.amq_io.specs.MemoryDisk.{outcome_of, past_of, content_of, last_synced_of, HoldsFiles, IsFresh, MayBeLeft};
 
 use crate::asked::{Asked, PastCall};
-use crate::crash::{Pick, torn_entries};
-use crate::entries::{
-    Entry, bytes_of, copies, create, entries_of, pend, remove, rename, sync, write,
-};
+use crate::crash::left_files;
+use crate::entries::{Entry, bytes_of, create, entries_of, pend, remove, rename, sync, write};
 use crate::listing::list;
-use crate::{Disk, DiskError, FileInfo};
+use crate::{Disk, DiskError, FileInfo, Pick};
 use amq_model::{DiskCall, Name, NoMemory};
 use std::alloc::{AllocError, Global};
 use std::marker::Model;
@@ -23,7 +22,7 @@ use std::marker::Model;
 #[derive(Drop)]
 pub struct MemoryDisk {
     alloc: Global,
-    start: Vec<Entry>,
+    start: Vec<(Name, Vec<u8>)>,
     files: Vec<Entry>,
     calls: Vec<PastCall>,
     moment: u64,
@@ -35,14 +34,16 @@ pub struct MemoryDisk {
 impl Model for MemoryDisk {
     ghost use Rattle.std.specs.Prelude.{◌≡◌, map, reverse};
     ghost use Rattle.amq_model.specs.Calls.{content, IsTimed};
-    ghost use Rattle.amq_io.specs.Entries.{files_of, pair_of};
+    ghost use Rattle.amq_io.specs.Entries.{files_of, synced_of, durable_pair};
+    ghost use Rattle.amq_io.specs.Synced.{last_synced};
     ghost use Rattle.amq_io.specs.MemoryDisk.{Memory, event_of, from_pairs};
 
     ghost Value = { Memory };
 
-    ghost view = { λ d. record { start = map pair_of d.start.items; calls = reverse (map event_of d.calls.items); moment = d.moment; faults = d.faults; last = d.last } };
+    ghost view = { λ d. record { start = map (λ f. durable_pair f.0 f.1.items) d.start.items; calls = reverse (map event_of d.calls.items); moment = d.moment; faults = d.faults; last = d.last } };
 
-    ghost invariant = { λ d. (files_of d.files.items ≡ content (from_pairs (map pair_of d.start.items)) (reverse (map event_of d.calls.items)))
+    ghost invariant = { λ d. (files_of d.files.items ≡ content (from_pairs (map (λ f. durable_pair f.0 f.1.items) d.start.items)) (reverse (map event_of d.calls.items)))
+        × (synced_of d.files.items ≡ last_synced (from_pairs (map (λ f. durable_pair f.0 f.1.items) d.start.items)) (reverse (map event_of d.calls.items)))
         × IsTimed (reverse (map event_of d.calls.items)) d.moment };
 }
 
@@ -54,18 +55,19 @@ fn perform(
 ) -> Result<(), AllocError>
     requires { IsInside (call_of asked.now) (files_of files.old.items) }
     ensures ok { OnOk result (files_of files.new.items ≡ after (call_of asked.now) (outcome_of failed) (files_of files.old.items)) }
-    ensures err { OnErr result (files_of files.new.items ≡ files_of files.old.items) }
+    ensures synced { OnOk result (synced_of files.new.items ≡ synced_by (call_of asked.now) (outcome_of failed) (files_of files.old.items) (synced_of files.old.items)) }
+    ensures err { OnErr result (IsUnchanged files.old.items files.new.items) }
 {
     if failed {
         return match asked {
-            Asked::WriteAt(name, place, bytes) => pend(files, name, *place, bytes.len() as u64),
+            Asked::WriteAt(name, place, bytes) => pend(alloc, files, name, *place, bytes.len()),
             _ => Ok(()),
         };
     }
     match asked {
         Asked::List | Asked::Read(_) => Ok(()),
         Asked::Create(name, len, fill) => create(alloc, files, name, *len, *fill),
-        Asked::WriteAt(name, place, bytes) => write(files, name, *place, bytes),
+        Asked::WriteAt(name, place, bytes) => write(alloc, files, name, *place, bytes),
         Asked::Sync(name) => {
             sync(files, name);
             Ok(())
@@ -79,6 +81,30 @@ fn perform(
 }
 
 impl MemoryDisk {
+    // A disk that begins with these files.
+    fn started(
+        alloc: Global,
+        start: Vec<(Name, Vec<u8>)>,
+        fails: Vec<u64>,
+    ) -> Result<MemoryDisk, NoMemory>
+        ensures fresh { IfOk result IsFresh }
+        ensures start { IfOk result (λ d. d.start ≡ map (λ f. durable_pair f.0 f.1.items) start.items) }
+    {
+        let Ok(files) = entries_of(alloc, &start) else {
+            return Err(NoMemory);
+        };
+        Ok(MemoryDisk {
+            alloc,
+            start,
+            files,
+            calls: Vec::new(alloc),
+            moment: 0,
+            fails,
+            faults: 0,
+            last: None,
+        })
+    }
+
     // A call that didn't begin for want of memory.
     fn refuse<T: Drop>(&mut self) -> Result<T, DiskError>
         ensures memory { result ≡ Err DiskError.NoMemory }
@@ -152,22 +178,7 @@ impl MemoryDisk {
         ensures fresh { IfOk result IsFresh }
         ensures holds { IfOk result (λ d. HoldsFiles (map (λ e. (e.0, e.1.items)) files.items) (content_of d)) }
     {
-        let Ok(start) = entries_of(alloc, files) else {
-            return Err(NoMemory);
-        };
-        let Ok(files) = copies(alloc, &start) else {
-            return Err(NoMemory);
-        };
-        Ok(MemoryDisk {
-            alloc,
-            start,
-            files,
-            calls: Vec::new(alloc),
-            moment: 0,
-            fails: calls,
-            faults: 0,
-            last: None,
-        })
+        MemoryDisk::started(alloc, files, calls)
     }
 
     /// What the disk reads of a file, where it is there. It is no call of the disk.
@@ -183,25 +194,14 @@ impl MemoryDisk {
     /// What a crash at this moment leaves, as a disk of its own: nothing of it is pending, and no call is
     /// to fail.
     pub fn crash(&self, pick: Pick) -> Result<MemoryDisk, NoMemory>
-        ensures left { IfOk result (λ d. IsLeftOf pick (content_of self.now) (content_of d)) }
+        ensures left { IfOk result (λ d. IsLeftOf pick (content_of self.now) (last_synced_of self.now) (content_of d)) }
+        ensures image { IfOk result (MayBeLeft self.now) }
         ensures fresh { IfOk result IsFresh }
     {
-        let Ok(start) = torn_entries(self.alloc, &self.files, pick) else {
+        let Ok(left) = left_files(self.alloc, &self.files, pick) else {
             return Err(NoMemory);
         };
-        let Ok(files) = copies(self.alloc, &start) else {
-            return Err(NoMemory);
-        };
-        Ok(MemoryDisk {
-            alloc: self.alloc,
-            start,
-            files,
-            calls: Vec::new(self.alloc),
-            moment: 0,
-            fails: Vec::new(self.alloc),
-            faults: 0,
-            last: None,
-        })
+        MemoryDisk::started(self.alloc, left, Vec::new(self.alloc))
     }
 }
 

@@ -196,6 +196,37 @@ fn a_crash_leaves_what_is_durable(rt: HostRuntime) -> Result<(), Fail> {
 }
 
 #[test]
+fn a_revert_gives_what_was_last_synced(rt: HostRuntime) -> Result<(), Fail> {
+    let alloc = rt.alloc();
+    let first = (name(alloc, "given")?, vec![in alloc; 1, 2, 3]?);
+    let second = (name(alloc, "again")?, vec![in alloc; 4, 5]?);
+    let fails = vec![in alloc; 12]?;
+    let mut disk = MemoryDisk::failing(alloc, two_files(&rt, alloc, first, second)?, fails)?;
+    write(&rt, &mut disk, "given", 0, &[9])?;
+    write(&rt, &mut disk, "again", 0, &[6])?;
+    sync(&rt, &mut disk, "again")?;
+    write(&rt, &mut disk, "again", 0, &[7, 7])?;
+    write(&rt, &mut disk, "again", 1, &[8])?;
+    create(&mut disk, &name(alloc, "never")?, 2, 7)?;
+    write(&rt, &mut disk, "never", 0, &[8])?;
+    create(&mut disk, &name(alloc, "old")?, 2, 3)?;
+    sync(&rt, &mut disk, "old")?;
+    write(&rt, &mut disk, "old", 1, &[9])?;
+    rename(&rt, &mut disk, "old", &name(alloc, "new")?)?;
+    assert!(rt; sync(&rt, &mut disk, "given").is_err());
+    let mut left = disk.crash(Pick::Revert)?;
+    for (name, bytes) in [
+        ("given", [1, 2, 3].as_slice()),
+        ("again", [6, 5].as_slice()),
+        ("never", [0, 0].as_slice()),
+        ("new", [3, 3].as_slice()),
+    ] {
+        assert_eq!(rt; read(&rt, &mut left, name)?.as_slice(), bytes);
+    }
+    Ok(())
+}
+
+#[test]
 fn a_source_gives_a_byte_a_call(rt: HostRuntime) -> Result<(), Fail> {
     let alloc = rt.alloc();
     let mut source = MemorySource::new(vec![in alloc; 1, 2]?, 1, vec![in alloc; 2]?);

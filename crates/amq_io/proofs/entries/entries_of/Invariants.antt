@@ -1,6 +1,6 @@
-use Rattle.std.proofs.Common.{◌≡◌, map}
-use Rattle.amq_io.specs.Entries.{pair_of, durable_pair}
+use Rattle.std.proofs.Common.{◌≡◌, map, take}
+use Rattle.amq_io.specs.Entries.{durable_entry}
 use Rattle.amq_io.proofs.entries.entries_of.Given as goal
 
-abbrev pub invariant-loop-name : goal.invariant-loop-name
-invariant-loop-name l = map pair_of l.entries.items ≡ map (λ e. durable_pair e.0 e.1.items) l.yielded
+abbrev pub invariant-loop-file : goal.invariant-loop-file
+invariant-loop-file l = l.entries.items ≡ map (λ f. durable_entry f.0 f.1.items) (take l.file-index l.files)
