@@ -19,4 +19,6 @@ pub use program::offline;
 pub use status::{Status, Unbuilt};
 
 #[cfg(test)]
+mod crash_tests;
+#[cfg(test)]
 mod tests;

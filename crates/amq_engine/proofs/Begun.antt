@@ -16,7 +16,7 @@ use Rattle.amq_model.specs.Leaves.{AllReads, HoldsSince, IsAt}
 use Rattle.amq_model.specs.Leaves.{Leaves}
 use Rattle.amq_io.specs.declared.disk.FileInfo.{FileInfo}
 use Rattle.amq_model.proofs.Settling.{list_settles}
-use Rattle.amq_model.proofs.Keeping.{reads_on, holds_now}
+use Rattle.amq_model.proofs.Keeping.{reads_on, holds_now, kept_from, kept_weaker}
 use Rattle.amq_engine.specs.Prepare.{Prepares, Prepared}
 use Rattle.amq_model.specs.declared.config.Config.{Config}
 use Rattle.amq_model.specs.declared.history.Step.{Step}
@@ -26,7 +26,6 @@ use Rattle.amq_engine.specs.declared.chronicle.Receipted.{Receipted}
 use Rattle.amq_engine.specs.Lists.{Lists, with_base, with_receipt}
 use Rattle.amq_engine.specs.OneFile.{Holds, IsEmpty, header_of}
 use Rattle.amq_engine.specs.Engine.{data_name, temporary_name, MayHold, AreKept, IsTold, IsBegun, IsBlank}
-use Rattle.amq_engine.proofs.Steps.{kept_from, kept_weaker}
 use Rattle.amq_engine.proofs.Sound.{Holding, header_long}
 use Rattle.amq_engine.proofs.Putting.{length-overlaid}
 use Rattle.amq_engine.proofs.Receipts.{if_some}

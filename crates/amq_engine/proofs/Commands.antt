@@ -28,7 +28,8 @@ use Rattle.amq_engine.specs.Lists.{Lists, with_step}
 use Rattle.amq_engine.specs.OneFile.{header_of, placed_in}
 use Rattle.amq_engine.specs.Engine.{data_name, IsPlainItem, IsTold, IsSound, command_id, is_live_after, id_refused, full, refused}
 use Rattle.amq_engine.proofs.Texts.{text_grows}
-use Rattle.amq_engine.proofs.Steps.{reads_weaker, holds_grows}
+use Rattle.amq_model.proofs.Keeping.{reads_weaker}
+use Rattle.amq_engine.proofs.Steps.{holds_grows}
 use Rattle.amq_engine.proofs.Receipts.{if_some, if_mapped, kept_grows}
 use Rattle.amq_engine.proofs.History.{behind, placed-snoc, length-placed, all_plain, end_placed, few_records, stands_next, answered_by, answer_is, history-snoc, legal-snoc, no_number_for, record_for_is}
 use Rattle.amq_engine.proofs.Sound.{Holding}

@@ -9,7 +9,8 @@ use Rattle.amq_scan.specs.Written.{Item}
 use Rattle.amq_engine.specs.declared.chronicle.Receipted.{Receipted}
 use Rattle.amq_engine.specs.OneFile.{header_of}
 use Rattle.amq_engine.specs.Engine.{data_name, MayHold, AreKept}
-use Rattle.amq_engine.proofs.Steps.{kept_from, kept_weaker, holds_grows}
+use Rattle.amq_model.proofs.Keeping.{kept_from, kept_weaker}
+use Rattle.amq_engine.proofs.Steps.{holds_grows}
 
 -- a fact about what may be told leads to another
 pub if_some : {A : Type 0} (P Q : A → Type 0) (o : Option A) → ((x : A) → P x → Q x) → IfSome o P → IfSome o Q

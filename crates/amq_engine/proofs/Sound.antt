@@ -8,7 +8,7 @@ use Rattle.amq_model.specs.declared.config.Config.{Config}
 use Rattle.amq_model.specs.Calls.{Past}
 use Rattle.amq_model.specs.Files.{Files}
 use Rattle.amq_model.specs.Leaves.{Leaves, AllReads, Told, IsThere, IsWithin, IsAt}
-use Rattle.amq_model.proofs.Keeping.{reads_on, holds_now}
+use Rattle.amq_model.proofs.Keeping.{reads_on, holds_now, kept_weaker}
 use Rattle.amq_record.proofs.Lengths.{length_long, length_word}
 use Rattle.amq_scan.specs.Written.{Item, spelled, end_from}
 use Rattle.amq_engine.specs.Lists.{Lists, with_receipt}
@@ -19,7 +19,7 @@ use Rattle.std.proofs.lemmas.Bool.{eq-eqb, ne_eqb}
 use Rattle.amq_engine.specs.Engine.{data_name, MayHold, IsTold, IsSound, is_flushed}
 use Rattle.amq_engine.proofs.History.{spelled_some}
 use Rattle.amq_engine.proofs.Texts.{end_whole}
-use Rattle.amq_engine.proofs.Steps.{kept_weaker, holds_puts, holds_put, holds_fewer, told_there, told_within}
+use Rattle.amq_engine.proofs.Steps.{holds_puts, holds_put, holds_fewer, told_there, told_within}
 use Rattle.amq_engine.proofs.Receipts.{if_some, if_mapped, kept_through, kept_push}
 
 pub header_long : (user_version id : ℕ) → length (header_of user_version id) ≡ 16

@@ -17,24 +17,6 @@ use Rattle.amq_engine.proofs.Putting.{length-overlaid}
 use Rattle.amq_scan.proofs.Lengths.{fill_rest}
 use Rattle.amq_engine.proofs.Texts.{whole_put}
 
--- what is kept since a moment is kept through calls that lead to it from what is now
-pub kept_from : (I E : Files → Files → Type 0) (P R : Files → Type 0) (t : ℕ) (a b : Option Past) → HoldsSince a t P → AllReads a R → ((o s : Files) → R o → I o s → P s) → Leaves I E a b → HoldsSince b t P
-kept_from I E P R t None b kept now inside leaves = let F : Option Past → Type 0 = λ h. HoldsSince h t P in subst F (sym leaves) tt
-kept_from I E P R t (Some p) b kept now inside leaves =
-    let F : Option Past → Type 0 = λ h. HoldsSince h t P in
-    subst F (sym leaves.1) (record {
-      earlier = omega (arith, kept.earlier, leaves.2.later);
-      each = λ s left. ⊎_elim (kept.each s) (λ o. inside _ _ (now o.0 o.1) o.2) (leaves.2.left t s kept.earlier left);
-    })
-
-pub kept_weaker : (P Q : Files → Type 0) (t : ℕ) (h : Option Past) → ((s : Files) → P s → Q s) → HoldsSince h t P → HoldsSince h t Q
-kept_weaker P Q t None weaker kept = tt
-kept_weaker P Q t (Some p) weaker kept = record { earlier = kept.earlier; each = λ s left. weaker s (kept.each s left) }
-
-pub reads_weaker : (P Q : Files → Type 0) (h : Option Past) → ((s : Files) → P s → Q s) → AllReads h P → AllReads h Q
-reads_weaker P Q None weaker all = tt
-reads_weaker P Q (Some p) weaker all = λ s reads. weaker s (all s reads)
-
 -- ---- one file
 
 module _ (n : FileName) (header : List ℕ) (fid : ℕ) where

@@ -64,6 +64,24 @@ holds_on I E P t (Some p) b holds inside leaves =
       each = λ s left. ⊎_elim (holds.each s) (λ o. inside _ _ (holds.each o.0 (reads_now p.start p.calls p.moment t o.0 holds.earlier o.1)) o.2) (leaves.2.left t s holds.earlier left);
     })
 
+-- what is kept since a moment is kept through calls that lead to it from what is now
+pub kept_from : (I E : Files → Files → Type 0) (P R : Files → Type 0) (t : ℕ) (a b : Option Past) → HoldsSince a t P → AllReads a R → ((o s : Files) → R o → I o s → P s) → Leaves I E a b → HoldsSince b t P
+kept_from I E P R t None b kept now inside leaves = let F : Option Past → Type 0 = λ h. HoldsSince h t P in subst F (sym leaves) tt
+kept_from I E P R t (Some p) b kept now inside leaves =
+    let F : Option Past → Type 0 = λ h. HoldsSince h t P in
+    subst F (sym leaves.1) (record {
+      earlier = omega (arith, kept.earlier, leaves.2.later);
+      each = λ s left. ⊎_elim (kept.each s) (λ o. inside _ _ (now o.0 o.1) o.2) (leaves.2.left t s kept.earlier left);
+    })
+
+pub kept_weaker : (P Q : Files → Type 0) (t : ℕ) (h : Option Past) → ((s : Files) → P s → Q s) → HoldsSince h t P → HoldsSince h t Q
+kept_weaker P Q t None weaker kept = tt
+kept_weaker P Q t (Some p) weaker kept = record { earlier = kept.earlier; each = λ s left. weaker s (kept.each s left) }
+
+pub reads_weaker : (P Q : Files → Type 0) (h : Option Past) → ((s : Files) → P s → Q s) → AllReads h P → AllReads h Q
+reads_weaker P Q None weaker all = tt
+reads_weaker P Q (Some p) weaker all = λ s reads. weaker s (all s reads)
+
 -- what all readings of this moment have holds since then
 pub holds_now : (P : Files → Type 0) (t : ℕ) (h : Option Past) → IfSome h (IsAt t) → t < 2 ^ 64 - 1 → AllReads h P → HoldsSince h t P
 holds_now P t None is low all = tt

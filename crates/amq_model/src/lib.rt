@@ -25,7 +25,7 @@ pub use config::Config;
 pub use directory::{Control, DataFile, DirFault, OpenFault};
 pub use history::{Answer, Step};
 pub use items::Items;
-pub use law::effect_grows;
+pub use law::{a_call_may_leave, content_may_be_left, effect_grows};
 pub use name::Name;
 pub use record::{Brief, Placed, Record};
 pub use refusal::{DiskCall, Phase, Refusal};
