@@ -1,9 +1,10 @@
 -- What the pending ranges of a file in memory are, and what picking their bytes makes of the file.
 use Rattle.std.proofs.Common.{◌≡◌, ◌⊎◌, inl, inr, ⊎_elim, ℕ, zero, suc, ◌+◌, ◌-◌, ◌<◌, ◌≤◌, List, [], ◌∷◌, ◌++◌, length, get_or, take, drop, map, replicate, refl, sym, ◌∙◌, ap, subst, arith, length-append, length-drop}
+use Rattle.std.specs.Prelude.{reverse}
 use Rattle.std.proofs.Math.ListN.{get_or-append}
 use Rattle.std.proofs.Math.Seq.{take-append_seam}
 use Rattle.std.proofs.lemmas.Bool.{cases_lt}
-use Rattle.std.proofs.lemmas.List.{ext_get_or, get_or-take, get_or-drop, get_or-append_right, get_or-replicate, length-replicate, length-take-le, take_more}
+use Rattle.std.proofs.lemmas.List.{ext_get_or, get_or-take, get_or-drop, get_or-append_right, get_or-replicate, length-replicate, length-take-le, drop_more, reverse-append}
 use Rattle.amq_model.specs.Files.{IsPending, overlaid}
 use Rattle.amq_io.specs.declared.pick.Pick.{Pick}
 use Rattle.amq_io.specs.declared.pick.Pick.TheVariants.{Keep, Revert, Fill}
@@ -73,11 +74,19 @@ inside_at len [] i p lt is inside = absurd (omega (arith, lt))
 inside_at len (q ∷ ps) zero p lt is inside = subst (λ (p : Pending). p.place + length p.before.items ≤ len) (sym is) inside.0
 inside_at len (q ∷ ps) (suc i) p lt is inside = inside_at len ps i p (omega (arith, lt)) is inside.1
 
-pub inside_take : (len : ℕ) (ps : List Pending) (i : ℕ) → AreInside len ps → AreInside len (take i ps)
-inside_take len [] zero inside = tt
-inside_take len [] (suc i) inside = tt
-inside_take len (p ∷ ps) zero inside = tt
-inside_take len (p ∷ ps) (suc i) inside = (inside.0, inside_take len ps i inside.1)
+inside_drop : (len : ℕ) (ps : List Pending) (i : ℕ) → AreInside len ps → AreInside len (drop i ps)
+inside_drop len [] zero inside = tt
+inside_drop len [] (suc i) inside = tt
+inside_drop len (p ∷ ps) zero inside = inside
+inside_drop len (p ∷ ps) (suc i) inside = inside_drop len ps i inside.1
+
+pub inside_push : (len : ℕ) (ps : List Pending) (p : Pending) → AreInside len ps → p.place + length p.before.items ≤ len → AreInside len (ps ++ p ∷ [])
+inside_push len [] p inside fits = (fits, tt)
+inside_push len (q ∷ ps) p inside fits = (inside.0, inside_push len ps p inside.1 fits)
+
+pub inside_reverse : (len : ℕ) (ps : List Pending) → AreInside len ps → AreInside len (reverse ps)
+inside_reverse len [] inside = tt
+inside_reverse len (p ∷ ps) inside = subst (AreInside len) (sym (reverse-append (p ∷ []) ps)) (inside_push len (reverse ps) p (inside_reverse len ps inside.1) inside.0)
 
 length-picked : (pick : Pick) (bytes : List ℕ) (p : Pending) → p.place + length p.before.items ≤ length bytes → length (picked pick bytes p) ≡ length bytes
 length-picked Keep bytes p fits = refl
@@ -94,16 +103,19 @@ pub all_more : (pick : Pick) (bytes : List ℕ) (ps : List Pending) (p : Pending
 all_more pick bytes [] p = refl
 all_more pick bytes (q ∷ ps) p = all_more pick (picked pick bytes q) ps p
 
--- one range more
-pub all_next : (pick : Pick) (bytes : List ℕ) (ps : List Pending) (i : ℕ) (p : Pending) → i < length ps → p ≡ get_or ps i p → picked pick (all_picked pick bytes (take i ps)) p ≡ all_picked pick bytes (take (i + 1) ps)
+-- one range more, from the newest on
+pub all_next : (pick : Pick) (bytes : List ℕ) (ps : List Pending) (i : ℕ) (p : Pending) → i < length ps → p ≡ get_or ps i p → picked pick (all_picked pick bytes (reverse (drop (i + 1) ps))) p ≡ all_picked pick bytes (reverse (drop i ps))
 all_next pick bytes ps i p lt is =
-    sym (all_more pick bytes (take i ps) p) ∙ ap (all_picked pick bytes) (ap (λ (p : Pending). take i ps ++ p ∷ []) is ∙ sym (take_more ps i p lt))
+    let rest : List Pending = drop (i + 1) ps in
+    let here : drop i ps ≡ p ∷ rest = drop_more ps i p lt ∙ ap (λ (p : Pending). p ∷ rest) (sym is) in
+    sym (all_more pick bytes (reverse rest) p) ∙ ap (all_picked pick bytes) (sym (ap reverse here ∙ reverse-append (p ∷ []) rest))
 
 -- and it fits
-pub next_fits : (pick : Pick) (bytes now : List ℕ) (ps : List Pending) (i : ℕ) (p : Pending) → AreInside (length bytes) ps → now ≡ all_picked pick bytes (take i ps) → i < length ps → p ≡ get_or ps i p
+pub next_fits : (pick : Pick) (bytes now : List ℕ) (ps : List Pending) (i : ℕ) (p : Pending) → AreInside (length bytes) ps → now ≡ all_picked pick bytes (reverse (drop (i + 1) ps)) → i < length ps → p ≡ get_or ps i p
     → p.place + length p.before.items ≤ length now
 next_fits pick bytes now ps i p inside is lt at =
-    let long : length now ≡ length bytes = ap length is ∙ length-all_picked pick bytes (take i ps) (inside_take (length bytes) ps i inside) in
+    let long : length now ≡ length bytes =
+    ap length is ∙ length-all_picked pick bytes (reverse (drop (i + 1) ps)) (inside_reverse (length bytes) (drop (i + 1) ps) (inside_drop (length bytes) ps (i + 1) inside)) in
     omega (arith, long, inside_at (length bytes) ps i p lt at inside)
 
 -- ---- what a crash makes of the bytes
@@ -167,22 +179,31 @@ torn_by pick bytes new ps inside is below = record {
 -- ---- the file that is seen
 
 abbrev pub seen : List ℕ → List Pending → Versions
-seen bytes ps = record { read = record { bytes = bytes; pending = map range_of ps }; synced = all_picked Revert bytes ps }
+seen bytes ps = record { read = record { bytes = bytes; pending = map range_of (reverse ps) }; synced = all_picked Revert bytes (reverse ps) }
 
 -- one range more is pending, and the bytes differ there at most
 pub hold_is : (bytes new : List ℕ) (p : Pending) (ps items : List Pending) (len : ℕ) (old : Versions) → length new ≡ length bytes → p.place + len ≤ length bytes → p.before.items ≡ take len (drop p.place bytes)
-    → ((i : ℕ) → ((p.place ≤ i) × (i < p.place + len) → ⊥) → get_or new i 0 ≡ get_or bytes i 0) → items ≡ p ∷ ps → seen bytes ps ≡ old
+    → ((i : ℕ) → ((p.place ≤ i) × (i < p.place + len) → ⊥) → get_or new i 0 ≡ get_or bytes i 0) → items ≡ ps ++ p ∷ [] → seen bytes ps ≡ old
     → seen new items ≡ record { read = record { bytes = new; pending = (p.place, len) ∷ old.read.pending }; synced = old.synced }
 hold_is bytes new p ps items len old long fits was same put is =
     let size : length p.before.items ≡ len = ap length was ∙ length-take-le len (drop p.place bytes) (omega (arith, fits, length-drop p.place bytes)) in
     let again : overlaid new p.place p.before.items ≡ bytes =
     back_again bytes new p.before.items p.place long (omega (arith, fits, size)) (was ∙ ap (λ k. take k (drop p.place bytes)) (sym size))
     (λ i out. same i (λ inside. out (inside.0, omega (arith, inside.1, size)))) in
-    let held : List ℕ → ℕ → Versions = λ b k. record { read = record { bytes = new; pending = (p.place, k) ∷ map range_of ps }; synced = all_picked Revert b ps } in
-    let first : seen new items ≡ held (overlaid new p.place p.before.items) (length p.before.items) = ap (seen new) put in
+    let qs : List Pending = reverse ps in
+    let held : List ℕ → ℕ → Versions = λ b k. record { read = record { bytes = new; pending = (p.place, k) ∷ map range_of qs }; synced = all_picked Revert b qs } in
+    let all : List Pending → Versions = λ l. record { read = record { bytes = new; pending = map range_of l }; synced = all_picked Revert new l } in
+    let first : seen new items ≡ held (overlaid new p.place p.before.items) (length p.before.items) = ap all (ap reverse put ∙ reverse-append ps (p ∷ [])) in
     let then : held (overlaid new p.place p.before.items) (length p.before.items) ≡ held bytes (length p.before.items) = ap (λ (b : List ℕ). held b (length p.before.items)) again in
     let last : held bytes (length p.before.items) ≡ held bytes len = ap (held bytes) size in
     first ∙ then ∙ last ∙ ap (λ (v : Versions). record { read = record { bytes = new; pending = (p.place, len) ∷ v.read.pending }; synced = v.synced }) is
+
+-- and it is inside the file
+pub hold_inside : (bytes : List ℕ) (p : Pending) (ps items : List Pending) (len : ℕ) → AreInside (length bytes) ps → p.place + len ≤ length bytes → p.before.items ≡ take len (drop p.place bytes) → items ≡ ps ++ p ∷ []
+    → AreInside (length bytes) items
+hold_inside bytes p ps items len inside fits was put =
+    let size : length p.before.items ≡ len = ap length was ∙ length-take-le len (drop p.place bytes) (omega (arith, fits, length-drop p.place bytes)) in
+    subst (AreInside (length bytes)) (sym put) (inside_push (length bytes) ps p inside (omega (arith, fits, size)))
 
 -- written back to where a vector keeps them
 pub written_back : (new old : List ℕ) (n : ℕ) → length new ≡ n → take n (new ++ drop (length new) old) ≡ new

@@ -1,5 +1,5 @@
 //! A file of a disk in memory: its bytes, and what its pending ranges held before.
-ghost use Rattle.std.specs.Prelude.{◌≡◌, ℕ, ◌+◌, ◌<◌, ◌≤◌, [], ◌∷◌, length, replicate, slice_index, OnOk, OnErr, IfOk};
+ghost use Rattle.std.specs.Prelude.{◌≡◌, ℕ, ◌+◌, ◌<◌, ◌≤◌, [], ◌∷◌, length, replicate, reverse, slice_index, OnOk, OnErr, IfOk};
 ghost use Rattle.amq_model.specs.Files.{overlaid};
 ghost use Rattle.amq_io.specs.MemoryFile.{AreInside, picked, all_picked};
 ghost use Rattle.amq_io.specs.Torn.{IsTornBy};
@@ -15,8 +15,8 @@ struct Pending {
     before: Vec<u8>,
 }
 
-/// A file as it reads and as it was last synced. The bytes that were pending ranges before are kept, the
-/// newest range first, so that they can be put back.
+/// A file as it reads and as it was last synced: what its pending ranges held before is kept, the newest
+/// range last, so that it can be put back.
 #[derive(Drop)]
 pub struct MemoryFile {
     bytes: Vec<u8>,
@@ -24,7 +24,7 @@ pub struct MemoryFile {
 }
 
 impl Model for MemoryFile {
-    ghost use Rattle.std.specs.Prelude.{map, length};
+    ghost use Rattle.std.specs.Prelude.{map, reverse, length};
     ghost use Rattle.amq_io.specs.Versions.{Versions};
 
     ghost Value = { Versions };
@@ -32,7 +32,7 @@ impl Model for MemoryFile {
     ghost use Rattle.amq_io.specs.MemoryFile.{range_of, AreInside, all_picked};
     ghost use Rattle.amq_io.specs.declared.pick.Pick.TheVariants.{Revert};
 
-    ghost view = { λ f. record { read = record { bytes = f.bytes.items; pending = map range_of f.pending.items }; synced = all_picked Revert f.bytes.items f.pending.items } };
+    ghost view = { λ f. record { read = record { bytes = f.bytes.items; pending = map range_of (reverse f.pending.items) }; synced = all_picked Revert f.bytes.items (reverse f.pending.items) } };
 
     ghost invariant = { λ f. AreInside (length f.bytes.items) f.pending.items };
 }
@@ -58,10 +58,10 @@ fn pick_range(bytes: &mut [u8], range: &Pending, pick: Pick)
 
 fn pick_ranges(bytes: &mut [u8], pending: &[Pending], pick: Pick)
     requires { AreInside (length bytes.old) pending.now }
-    ensures { bytes.new ≡ all_picked pick bytes.old pending.now }
+    ensures { bytes.new ≡ all_picked pick bytes.old (reverse pending.now) }
 {
-    for range in pending {
-        pick_range(bytes, range, pick);
+    for i in (0..pending.len()).rev() {
+        pick_range(bytes, &pending[i], pick);
     }
 }
 
@@ -109,7 +109,7 @@ impl MemoryFile {
     {
         let start = place as usize;
         let before = self.bytes[start..start + len].to_vec(alloc)?;
-        self.pending.insert(0, Pending { place, before })?;
+        self.pending.push(Pending { place, before })?;
         Ok(())
     }
 
@@ -121,7 +121,7 @@ impl MemoryFile {
     {
         let start = place as usize;
         let before = self.bytes[start..start + bytes.len()].to_vec(alloc)?;
-        self.pending.insert(0, Pending { place, before })?;
+        self.pending.push(Pending { place, before })?;
         overlay(&mut self.bytes, start, bytes);
         Ok(())
     }
