@@ -5,4 +5,5 @@ pub mod Pieces
 pub mod Places
 pub mod Recorded
 pub mod Starting
+pub mod SyncedExamples
 pub mod Tearing
