@@ -1,0 +1,20 @@
+/// Numbers in an order that looks random: the journal's generator makes its bodies from them.
+#[derive(Clone, Copy, Debug, PartialEq, Eq)]
+pub struct Numbers {
+    state: u64,
+}
+
+impl Numbers {
+    pub fn from_seed(seed: u64) -> Numbers {
+        Numbers { state: seed }
+    }
+
+    /// The next number, below 2^31.
+    pub fn draw(&mut self) -> usize {
+        self.state = self
+            .state
+            .wrapping_mul(6_364_136_223_846_793_005)
+            .wrapping_add(1_442_695_040_888_963_407);
+        (self.state >> 33) as usize
+    }
+}

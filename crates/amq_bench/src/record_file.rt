@@ -1,0 +1,58 @@
+use amq_model::{NoMemory, Record};
+use amq_record::{encode_into, encoded_len};
+use std::alloc::Global;
+
+/// The file's id, which each of its records carries.
+pub const FILE_ID: u32 = 1;
+
+pub const FORMAT_VERSION: u32 = 2;
+
+/// A record's length has its highest bit clear.
+const LENGTH_LIMIT: u64 = 0x8000_0000;
+
+/// The bytes of a file: its header, and records one behind the other.
+#[derive(Drop)]
+pub struct RecordFile {
+    bytes: Vec<u8>,
+    records: usize,
+}
+
+impl RecordFile {
+    pub fn new(alloc: Global) -> Result<RecordFile, NoMemory> {
+        let header = [0, 0, 0, 2, 0, 0, 0, 0, 0, 0, 0, 0, 0, 0, 0, 1];
+        match Vec::from_slice(alloc, &header) {
+            Ok(bytes) => Ok(RecordFile { bytes, records: 0 }),
+            Err(_) => Err(NoMemory),
+        }
+    }
+
+    /// Writes the record behind the others.
+    pub fn put(&mut self, rec: &Record) -> Result<(), NoMemory> {
+        encode_behind(&mut self.bytes, rec)?;
+        self.records = self.records.saturating_add(1);
+        Ok(())
+    }
+
+    pub fn bytes(&self) -> &[u8] {
+        self.bytes.as_slice()
+    }
+
+    pub fn len(&self) -> usize {
+        self.bytes.len()
+    }
+
+    /// How many records it has.
+    pub fn records(&self) -> usize {
+        self.records
+    }
+}
+
+/// Writes the record behind these bytes.
+pub fn encode_behind(out: &mut Vec<u8>, rec: &Record) -> Result<(), NoMemory> {
+    let len = encoded_len(rec);
+    if len >= LENGTH_LIMIT || out.reserve(len as usize).is_err() {
+        return Err(NoMemory);
+    }
+    encode_into(out, FILE_ID, 0, rec);
+    Ok(())
+}
