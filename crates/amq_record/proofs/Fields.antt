@@ -5,7 +5,11 @@ use Rattle.std.proofs.lemmas.Bool.{cases_lt, eqb-true, eqb-false, ltb-true, ltb-
 use Rattle.std.proofs.lemmas.List.{take_at, drop_at, take-append-drop, length-append, length-take, get_or-drop, get_or-take, get_or_past}
 use Rattle.std.proofs.lemmas.Nat.{be_bytes_4, be_bytes_8, from_be_bytes-to_be_bytes_4, from_be_bytes-to_be_bytes_8}
 use Rattle.amq_model.specs.RecordAt.{long, word, IsBytes, IsBody, IsCompact, compact_bytes}
-use Rattle.amq_record.specs.Reading.{◌>>=◌, Field, byte_at, number_at, bytes_at, len_at, sized_at, typed_at, both_at, long_at, word_at, compact_at}
+use Rattle.amq_record.specs.declared.layout.BodyForm.{BodyForm}
+use Rattle.amq_record.specs.declared.layout.BodyForm.TheVariants.{Absent, Sized, Typed}
+use Rattle.amq_record.specs.declared.layout.Layout.{Layout}
+use Rattle.amq_record.specs.Layouts.{Values, spelled_if, spelled_body, spelled_by}
+use Rattle.amq_record.specs.Reading.{◌>>=◌, Field, byte_at, number_at, bytes_at, len_at, sized_at, typed_at, both_at, long_at, word_at, if_at, body_at, layout_at, compact_at}
 
 pub IsBytes-drop : (n : ℕ) (bytes : List ℕ) → IsBytes bytes → IsBytes (drop n bytes)
 IsBytes-drop n bytes h i = rw get_or-drop (h (n + i))
@@ -168,16 +172,13 @@ sized_again : (body rest : List ℕ) → IsBody body → sized_at ((word (length
 unfolding sized_at
 sized_again body rest h = rw (append_assoc (word (length body)) body rest, len_again (length body) (body ++ rest) h.short, bytes_again body rest) refl
 
-pub reads_sized : Reads sized_at (λ body. word (length body) ++ body) IsBody
-reads_sized = record { takes = sized_takes; again = sized_again }
-
-abbrev spell_typed : ℕ × List ℕ → List ℕ
-spell_typed x = word (length x.1) ++ x.0 ∷ x.1
+abbrev spelled_typed : ℕ × List ℕ → List ℕ
+spelled_typed x = word (length x.1) ++ x.0 ∷ x.1
 
 abbrev FitsTyped : ℕ × List ℕ → Type 0
 FitsTyped x = (x.0 < 256) × IsBody x.1
 
-typed_takes : (bytes : List ℕ) (x : ℕ × List ℕ) (rest : List ℕ) → IsBytes bytes → typed_at bytes ≡ Some (x, rest) → Takes bytes (spell_typed x) rest × FitsTyped x
+typed_takes : (bytes : List ℕ) (x : ℕ × List ℕ) (rest : List ℕ) → IsBytes bytes → typed_at bytes ≡ Some (x, rest) → Takes bytes (spelled_typed x) rest × FitsTyped x
 unfolding typed_at
 typed_takes bytes x rest fits e =
     let a = bind_some (len_at bytes) (λ n. byte_at n.1 >>= λ t. bytes_at n.0 t.1 >>= λ b. Some ((t.0, b.0), b.1)) (x, rest) e in
@@ -188,15 +189,63 @@ typed_takes bytes x rest fits e =
     let r = bytes_takes a.0.0 t.0.1 b.0.0 b.0.1 q.0.rest_fits b.1 in
     let qr = Takes-then a.0.1 (t.0.0 ∷ []) t.0.1 b.0.0 b.0.1 q.0 r.0 in
     let all = Takes-then bytes (word a.0.0) a.0.1 (t.0.0 ∷ b.0.0) b.0.1 p.0 qr in
-    subst (λ (y : (ℕ × List ℕ) × List ℕ). Takes bytes (spell_typed y.0) y.1 × FitsTyped y.0) (some_is ((t.0.0, b.0.0), b.0.1) (x, rest) b.2)
+    subst (λ (y : (ℕ × List ℕ) × List ℕ). Takes bytes (spelled_typed y.0) y.1 × FitsTyped y.0) (some_is ((t.0.0, b.0.0), b.0.1) (x, rest) b.2)
     (subst (λ (k : ℕ). Takes bytes (word k ++ t.0.0 ∷ b.0.0) b.0.1) (sym r.1) all, (q.1, record { short = omega (arith, p.1, r.1); bytes = r.2 }))
 
-typed_again : (x : ℕ × List ℕ) (rest : List ℕ) → FitsTyped x → typed_at (spell_typed x ++ rest) ≡ Some (x, rest)
+typed_again : (x : ℕ × List ℕ) (rest : List ℕ) → FitsTyped x → typed_at (spelled_typed x ++ rest) ≡ Some (x, rest)
 unfolding typed_at
 typed_again x rest h = rw (append_assoc (word (length x.1)) (x.0 ∷ x.1) rest, len_again (length x.1) (x.0 ∷ x.1 ++ rest) h.1.short, bytes_again x.1 rest) refl
 
-pub reads_typed : Reads typed_at (λ x. word (length x.1) ++ x.0 ∷ x.1) (λ x. (x.0 < 256) × IsBody x.1)
-reads_typed = record { takes = typed_takes; again = typed_again }
+-- ---- fields that may be there
+
+-- a field that isn't there is 0
+abbrev pub FitsIf : Bool → (ℕ → Type 0) → ℕ → Type 0
+FitsIf true Fits n = Fits n
+FitsIf false Fits n = n ≡ 0
+
+absent_takes : (bytes : List ℕ) (n : ℕ) (rest : List ℕ) → IsBytes bytes → some {A = ℕ × List ℕ} (0, bytes) ≡ Some (n, rest) → Takes bytes [] rest × (n ≡ 0)
+absent_takes bytes n rest fits e = subst (λ (p : ℕ × List ℕ). Takes bytes [] p.1 × (p.0 ≡ 0)) (some_is (0, bytes) (n, rest) e) (record { parts = refl; rest_fits = fits }, refl)
+
+pub reads_if : (there : Bool) (field : Field ℕ) (spell : ℕ → List ℕ) (Fits : ℕ → Type 0) → Reads field spell Fits → Reads (if_at there field) (spelled_if there spell) (FitsIf there Fits)
+reads_if true field spell Fits r = record { takes = r.takes; again = r.again }
+reads_if false field spell Fits r = record { takes = absent_takes; again = λ n rest h. ap (λ (m : ℕ). some {A = ℕ × List ℕ} (m, rest)) (sym h) }
+
+-- a body of this form
+abbrev pub FitsBody : BodyForm → ℕ × List ℕ → Type 0
+FitsBody Absent x = (x.0 ≡ 0) × (x.1 ≡ [])
+FitsBody Sized x = (x.0 ≡ 0) × IsBody x.1
+FitsBody Typed x = (x.0 < 256) × IsBody x.1
+
+no_body_takes : (bytes : List ℕ) (x : ℕ × List ℕ) (rest : List ℕ) → IsBytes bytes → body_at Absent bytes ≡ Some (x, rest) → Takes bytes [] rest × FitsBody Absent x
+no_body_takes bytes x rest fits e = subst (λ (p : (ℕ × List ℕ) × List ℕ). Takes bytes [] p.1 × FitsBody Absent p.0) (some_is ((0, []), bytes) (x, rest) e) (record { parts = refl; rest_fits = fits }, (refl, refl))
+
+no_body_again : (x : ℕ × List ℕ) (rest : List ℕ) → FitsBody Absent x → body_at Absent rest ≡ Some (x, rest)
+no_body_again x rest h = rw (h.0, h.1) refl
+
+sized_body_takes : (bytes : List ℕ) (x : ℕ × List ℕ) (rest : List ℕ) → IsBytes bytes → body_at Sized bytes ≡ Some (x, rest) → Takes bytes (spelled_body Sized x) rest × FitsBody Sized x
+sized_body_takes bytes x rest fits e =
+    let a = bind_some (sized_at bytes) (λ a. Some ((0, a.0), a.1)) (x, rest) e in
+    let p = sized_takes bytes a.0.0 a.0.1 fits a.1 in
+    subst (λ (y : (ℕ × List ℕ) × List ℕ). Takes bytes (spelled_body Sized y.0) y.1 × FitsBody Sized y.0) (some_is ((0, a.0.0), a.0.1) (x, rest) a.2) (p.0, (refl, p.1))
+
+sized_body_again : (x : ℕ × List ℕ) (rest : List ℕ) → FitsBody Sized x → body_at Sized (spelled_body Sized x ++ rest) ≡ Some (x, rest)
+sized_body_again x rest h = rw (sized_again x.1 rest h.1) (ap (λ (n : ℕ). some {A = (ℕ × List ℕ) × List ℕ} ((n, x.1), rest)) (sym h.0))
+
+pub reads_body : (form : BodyForm) → Reads (body_at form) (spelled_body form) (FitsBody form)
+reads_body Absent = record { takes = no_body_takes; again = no_body_again }
+reads_body Sized = record { takes = sized_body_takes; again = sized_body_again }
+reads_body Typed = record { takes = typed_takes; again = typed_again }
+
+-- each value fits where the layout has it
+abbrev pub FitsBy : Layout → Values → Type 0
+FitsBy l x = FitsIf l.tx (λ n. n < 2 ^ 64) x.0 × (FitsIf l.id (λ n. n < 2 ^ 64) x.1.0 × (FitsIf l.count (λ n. n < 2 ^ 32) x.1.1.0 × FitsBody l.body x.1.1.1))
+
+pub reads_layout : (l : Layout) → Reads (layout_at l) (spelled_by l) (FitsBy l)
+unfolding layout_at
+reads_layout l =
+    reads_both _ _ _ _ _ _ (reads_if l.tx long_at long (λ n. n < 2 ^ 64) reads_long)
+    (reads_both _ _ _ _ _ _ (reads_if l.id long_at long (λ n. n < 2 ^ 64) reads_long)
+    (reads_both _ _ _ _ _ _ (reads_if l.count word_at word (λ n. n < 2 ^ 32) reads_word) (reads_body l.body)))
 
 -- ---- a compact count
 

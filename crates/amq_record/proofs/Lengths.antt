@@ -1,5 +1,6 @@
 -- How long the parts of a spelling are.
-use Rattle.std.proofs.Common.{◌≡◌, ℕ, ◌+◌, length, refl, arith}
+use Rattle.std.proofs.Common.{◌≡◌, ℕ, ◌+◌, List, ◌∷◌, ◌++◌, length, refl, arith}
+use Rattle.std.proofs.lemmas.List.{length-append}
 use Rattle.amq_model.specs.declared.record.Record.{Record}
 use Rattle.amq_model.specs.declared.record.Record.TheVariants.{Add, Update, AddTx, UpdateTx, DeleteTx, Delete, Prepare, Commit, Rollback}
 use Rattle.amq_model.specs.RecordAt.{long, word, fields_of, len_of}
@@ -11,6 +12,12 @@ length_long n = refl
 pub length_word : (n : ℕ) → length (word n) ≡ 4
 unfolding word
 length_word n = refl
+
+pub length_sized : (n : ℕ) (body : List ℕ) → length (word n ++ body) ≡ length body + 4
+length_sized n body = omega (arith, length-append (word n) body, length_word n)
+
+pub length_typed : (n user_type : ℕ) (body : List ℕ) → length (word n ++ user_type ∷ body) ≡ length body + 5
+length_typed n user_type body = omega (arith, length-append (word n) (user_type ∷ body), length_word n)
 
 pub length_fields : (rec : Record) → length (fields_of rec) + 10 ≡ len_of rec
 unfolding long word

@@ -1,4 +1,5 @@
 pub mod Lengths
+pub mod Layouts
 pub mod Fields
 pub mod Records
 pub mod Found

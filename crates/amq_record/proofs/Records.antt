@@ -6,55 +6,98 @@ use Rattle.std.proofs.lemmas.List.{take_at, drop_at, take-append-drop, length-ap
 use Rattle.amq_model.specs.declared.record.Record.{Record}
 use Rattle.amq_model.specs.declared.record.Record.TheVariants.{Add, Update, AddTx, UpdateTx, DeleteTx, Delete, Prepare, Commit, Rollback}
 use Rattle.amq_model.specs.RecordAt.{word, kind_of, fields_of, len_of, whole_len, compact_bytes, spelling, IsBytes, IsRecord, IsCompact, Spot, RecordAt, NoneAt}
-use Rattle.amq_record.specs.Reading.{Field, byte_at, both_at, as_at, compact_at, head_at, word_at, fields_at, front_of, read_at}
+use Rattle.amq_record.specs.declared.layout.Kind.{Kind}
+use Rattle.amq_record.specs.declared.layout.Kind.TheVariants as k
+use Rattle.amq_record.specs.Layouts.{Values, number_of, kind_numbered, kind_in, layout_of, values_in, record_from}
+use Rattle.amq_record.specs.Reading.{byte_at, both_at, compact_at, head_at, word_at, layout_at, fields_at, front_of, read_at}
 use Rattle.amq_record.proofs.Lengths.{length_word, length_fields}
-use Rattle.amq_record.proofs.Fields.{IsBytes-drop, some_is, bind_some, bind_with, guard_some, Takes, Takes-then, Reads, reads_word, reads_long, reads_byte, reads_compact, reads_both, reads_sized, reads_typed}
+use Rattle.amq_record.proofs.Layouts.{spelled_from, record_is, spelled_is}
+use Rattle.amq_record.proofs.Fields.{IsBytes-drop, some_is, bind_with, guard_some, Takes, Takes-then, Reads, FitsBy, reads_word, reads_byte, reads_compact, reads_both, reads_layout}
 
 -- a field of this kind gave this record
 abbrev Found : ℕ → List ℕ → Record → List ℕ → Type 0
 Found kind bytes rec rest = Takes bytes (fields_of rec) rest × IsRecord rec × (kind_of rec ≡ kind)
 
-found : (kind : ℕ) {A : Type 0} (make : A → Record) (field : Field A) (spell : A → List ℕ) (Fits : A → Type 0) → Reads field spell Fits
-    → ((x : A) → spell x ≡ fields_of (make x)) → ((x : A) → Fits x → IsRecord (make x)) → ((x : A) → kind_of (make x) ≡ kind)
-    → (bytes : List ℕ) (rec : Record) (rest : List ℕ) → IsBytes bytes → as_at make field bytes ≡ Some (rec, rest) → Found kind bytes rec rest
-found kind make field spell Fits reads spelled fits_it kind_it bytes rec rest fits e =
-    let a = bind_some (field bytes) (λ a. Some (make a.0, a.1)) (rec, rest) e in
-    let p = reads.takes bytes a.0.0 a.0.1 fits a.1 in
-    subst (λ (y : Record × List ℕ). Found kind bytes y.0 y.1) (some_is (make a.0.0, a.0.1) (rec, rest) a.2)
-    (subst (λ (t : List ℕ). Takes bytes t a.0.1) (spelled a.0.0) p.0, fits_it a.0.0 p.1, kind_it a.0.0)
+abbrev some_kind : Kind → Option Kind
+some_kind a = Some a
+
+kind_some : (a b : Kind) → some_kind a ≡ Some b → a ≡ b
+kind_some a b e = cc
 
 -- one kind after another
-or_else : (kind n : ℕ) (a b : Option (Record × List ℕ)) (bytes : List ℕ) (rec : Record) (rest : List ℕ) → cond (eqb kind n) a b ≡ Some (rec, rest)
-    → (a ≡ Some (rec, rest) → Found n bytes rec rest) → (b ≡ Some (rec, rest) → Found kind bytes rec rest) → Found kind bytes rec rest
-or_else kind n a b bytes rec rest e this others = by (eqb kind n) refl e where
-  by : (t : Bool) → eqb kind n ≡ t → cond t a b ≡ Some (rec, rest) → Found kind bytes rec rest
-  by true is h = subst (λ (k : ℕ). Found k bytes rec rest) (sym (eqb-true kind n is)) (this h)
-  by false is h = others h
+or_else : (n : ℕ) (kind : Kind) (m : ℕ) (this : Kind) → number_of this ≡ m → (others : Option Kind) → cond (eqb n m) (Some this) others ≡ Some kind → (others ≡ Some kind → number_of kind ≡ n) → number_of kind ≡ n
+or_else n kind m this is others e go = by (eqb n m) refl e where
+  by : (t : Bool) → eqb n m ≡ t → cond t (Some this) others ≡ Some kind → number_of kind ≡ n
+  by true same h = ap number_of (sym (kind_some this kind h)) ∙ is ∙ sym (eqb-true n m same)
+  by false other h = go h
 
-fields_takes : (kind : ℕ) (bytes : List ℕ) (rec : Record) (rest : List ℕ) → IsBytes bytes → fields_at kind bytes ≡ Some (rec, rest) → Found kind bytes rec rest
+-- a kind is the one of its number
+numbered_is : (n : ℕ) (kind : Kind) → kind_numbered n ≡ Some kind → number_of kind ≡ n
+numbered_is n kind e =
+    or_else n kind 11 k.Add refl _ e (λ e. or_else n kind 12 k.Update refl _ e (λ e. or_else n kind 13 k.AddTx refl _ e (λ e.
+    or_else n kind 14 k.UpdateTx refl _ e (λ e. or_else n kind 15 k.DeleteTx refl _ e (λ e. or_else n kind 16 k.Delete refl _ e (λ e.
+    or_else n kind 17 k.Prepare refl _ e (λ e. or_else n kind 18 k.Commit refl _ e (λ e. or_else n kind 19 k.Rollback refl _ e (λ e. absurd cc)))))))))
+
+-- values that fit a kind's layout make a record
+fits_from : (kind : Kind) (x : Values) → FitsBy (layout_of kind) x → IsRecord (record_from kind x)
+fits_from k.Add x h = (h.1.0, h.1.1.1.0, h.1.1.1.1)
+fits_from k.Update x h = (h.1.0, h.1.1.1.0, h.1.1.1.1)
+fits_from k.AddTx x h = (h.0, h.1.0, h.1.1.1.0, h.1.1.1.1)
+fits_from k.UpdateTx x h = (h.0, h.1.0, h.1.1.1.0, h.1.1.1.1)
+fits_from k.DeleteTx x h = (h.0, h.1.0, h.1.1.1.1)
+fits_from k.Delete x h = h.1.0
+fits_from k.Prepare x h = (h.0, h.1.1.0, h.1.1.1.1)
+fits_from k.Commit x h = (h.0, h.1.1.0)
+fits_from k.Rollback x h = h.0
+
+-- a record's values fit its kind's layout
+fits_in : (rec : Record) → IsRecord rec → FitsBy (layout_of (kind_in rec)) (values_in rec)
+fits_in (Add id user_type body) h = (refl, (h.0, (refl, (h.1, h.2))))
+fits_in (Update id user_type body) h = (refl, (h.0, (refl, (h.1, h.2))))
+fits_in (AddTx tx id user_type body) h = (h.0, (h.1, (refl, (h.2, h.3))))
+fits_in (UpdateTx tx id user_type body) h = (h.0, (h.1, (refl, (h.2, h.3))))
+fits_in (DeleteTx tx id body) h = (h.0, (h.1, (refl, (refl, h.2))))
+fits_in (Delete id) h = (refl, (h, (refl, (refl, refl))))
+fits_in (Prepare tx count extra) h = (h.0, (refl, (h.1, (refl, h.2))))
+fits_in (Commit tx count) h = (h.0, (refl, (h.1, (refl, refl))))
+fits_in (Rollback tx) h = (h, (refl, (refl, (refl, refl))))
+
+kind_from : (kind : Kind) (x : Values) → kind_of (record_from kind x) ≡ number_of kind
+kind_from k.Add x = refl
+kind_from k.Update x = refl
+kind_from k.AddTx x = refl
+kind_from k.UpdateTx x = refl
+kind_from k.DeleteTx x = refl
+kind_from k.Delete x = refl
+kind_from k.Prepare x = refl
+kind_from k.Commit x = refl
+kind_from k.Rollback x = refl
+
+numbered_again : (rec : Record) → kind_numbered (kind_of rec) ≡ Some (kind_in rec)
+numbered_again (Add id user_type body) = refl
+numbered_again (Update id user_type body) = refl
+numbered_again (AddTx tx id user_type body) = refl
+numbered_again (UpdateTx tx id user_type body) = refl
+numbered_again (DeleteTx tx id body) = refl
+numbered_again (Delete id) = refl
+numbered_again (Prepare tx count extra) = refl
+numbered_again (Commit tx count) = refl
+numbered_again (Rollback tx) = refl
+
+fields_takes : (number : ℕ) (bytes : List ℕ) (rec : Record) (rest : List ℕ) → IsBytes bytes → fields_at number bytes ≡ Some (rec, rest) → Found number bytes rec rest
 unfolding fields_at
-fields_takes kind bytes rec rest fits e =
-    or_else kind 11 _ _ bytes rec rest e (found 11 (λ x. Add x.0 x.1.0 x.1.1) _ _ _ (reads_both _ _ _ _ _ _ reads_long reads_typed) (λ x. refl) (λ x h. (h.0, h.1.0, h.1.1)) (λ x. refl) bytes rec rest fits) (λ e.
-    or_else kind 12 _ _ bytes rec rest e (found 12 (λ x. Update x.0 x.1.0 x.1.1) _ _ _ (reads_both _ _ _ _ _ _ reads_long reads_typed) (λ x. refl) (λ x h. (h.0, h.1.0, h.1.1)) (λ x. refl) bytes rec rest fits) (λ e.
-    or_else kind 13 _ _ bytes rec rest e (found 13 (λ x. AddTx x.0 x.1.0 x.1.1.0 x.1.1.1) _ _ _ (reads_both _ _ _ _ _ _ reads_long (reads_both _ _ _ _ _ _ reads_long reads_typed)) (λ x. refl) (λ x h. (h.0, h.1.0, h.1.1.0, h.1.1.1)) (λ x. refl) bytes rec rest fits) (λ e.
-    or_else kind 14 _ _ bytes rec rest e (found 14 (λ x. UpdateTx x.0 x.1.0 x.1.1.0 x.1.1.1) _ _ _ (reads_both _ _ _ _ _ _ reads_long (reads_both _ _ _ _ _ _ reads_long reads_typed)) (λ x. refl) (λ x h. (h.0, h.1.0, h.1.1.0, h.1.1.1)) (λ x. refl) bytes rec rest fits) (λ e.
-    or_else kind 15 _ _ bytes rec rest e (found 15 (λ x. DeleteTx x.0 x.1.0 x.1.1) _ _ _ (reads_both _ _ _ _ _ _ reads_long (reads_both _ _ _ _ _ _ reads_long reads_sized)) (λ x. refl) (λ x h. (h.0, h.1.0, h.1.1)) (λ x. refl) bytes rec rest fits) (λ e.
-    or_else kind 16 _ _ bytes rec rest e (found 16 Delete _ _ _ reads_long (λ x. refl) (λ x h. h) (λ x. refl) bytes rec rest fits) (λ e.
-    or_else kind 17 _ _ bytes rec rest e (found 17 (λ x. Prepare x.0 x.1.0 x.1.1) _ _ _ (reads_both _ _ _ _ _ _ reads_long (reads_both _ _ _ _ _ _ reads_word reads_sized)) (λ x. refl) (λ x h. (h.0, h.1.0, h.1.1)) (λ x. refl) bytes rec rest fits) (λ e.
-    or_else kind 18 _ _ bytes rec rest e (found 18 (λ x. Commit x.0 x.1) _ _ _ (reads_both _ _ _ _ _ _ reads_long reads_word) (λ x. refl) (λ x h. h) (λ x. refl) bytes rec rest fits) (λ e.
-    or_else kind 19 _ _ bytes rec rest e (found 19 Rollback _ _ _ reads_long (λ x. refl) (λ x h. h) (λ x. refl) bytes rec rest fits) (λ e. absurd cc)))))))))
+fields_takes number bytes rec rest fits e =
+    bind_with _ _ (rec, rest) e (λ kind n e. bind_with _ _ (rec, rest) e (λ values v e.
+    let p = (reads_layout (layout_of kind)).takes bytes values.0 values.1 fits v in
+    subst (λ (y : Record × List ℕ). Found number bytes y.0 y.1) (some_is (record_from kind values.0, values.1) (rec, rest) e)
+    (subst (λ (t : List ℕ). Takes bytes t values.1) (spelled_from kind values.0) p.0, fits_from kind values.0 p.1, kind_from kind values.0 ∙ numbered_is number kind n)))
 
 fields_again : (rec : Record) (rest : List ℕ) → IsRecord rec → fields_at (kind_of rec) (fields_of rec ++ rest) ≡ Some (rec, rest)
 unfolding fields_at
-fields_again (Add id user_type body) rest h = rw ((reads_both _ _ _ _ _ _ reads_long reads_typed).again (id, (user_type, body)) rest (h.0, (h.1, h.2))) refl
-fields_again (Update id user_type body) rest h = rw ((reads_both _ _ _ _ _ _ reads_long reads_typed).again (id, (user_type, body)) rest (h.0, (h.1, h.2))) refl
-fields_again (AddTx tx id user_type body) rest h = rw ((reads_both _ _ _ _ _ _ reads_long (reads_both _ _ _ _ _ _ reads_long reads_typed)).again (tx, (id, (user_type, body))) rest (h.0, (h.1, (h.2, h.3)))) refl
-fields_again (UpdateTx tx id user_type body) rest h = rw ((reads_both _ _ _ _ _ _ reads_long (reads_both _ _ _ _ _ _ reads_long reads_typed)).again (tx, (id, (user_type, body))) rest (h.0, (h.1, (h.2, h.3)))) refl
-fields_again (DeleteTx tx id body) rest h = rw ((reads_both _ _ _ _ _ _ reads_long (reads_both _ _ _ _ _ _ reads_long reads_sized)).again (tx, (id, body)) rest (h.0, (h.1, h.2))) refl
-fields_again (Delete id) rest h = rw (reads_long.again id rest h) refl
-fields_again (Prepare tx count extra) rest h = rw ((reads_both _ _ _ _ _ _ reads_long (reads_both _ _ _ _ _ _ reads_word reads_sized)).again (tx, (count, extra)) rest (h.0, (h.1, h.2))) refl
-fields_again (Commit tx count) rest h = rw ((reads_both _ _ _ _ _ _ reads_long reads_word).again (tx, count) rest h) refl
-fields_again (Rollback tx) rest h = rw (reads_long.again tx rest h) refl
+fields_again rec rest h =
+    let values : layout_at (layout_of (kind_in rec)) (fields_of rec ++ rest) ≡ Some (values_in rec, rest) =
+    subst (λ (t : List ℕ). layout_at (layout_of (kind_in rec)) (t ++ rest) ≡ Some (values_in rec, rest)) (spelled_is rec) ((reads_layout (layout_of (kind_in rec))).again (values_in rec) rest (fits_in rec h)) in
+    rw (numbered_again rec, values, record_is rec) refl
 
 -- ---- the whole record
 

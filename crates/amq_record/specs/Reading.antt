@@ -1,9 +1,12 @@
 -- Reading a record from left to right.
-use Rattle.std.specs.Prelude.{◌≡◌, ℕ, ◌-◌, ◌^◌, List, [], ◌∷◌, length, take, drop, Option, Some, None, nat_lt, ◌==◌, ◌&&◌, if◌then◌else◌}
+use Rattle.std.specs.Prelude.{◌≡◌, ℕ, Bool, ◌-◌, ◌^◌, List, [], ◌∷◌, length, take, drop, Option, Some, None, nat_lt, ◌==◌, ◌&&◌, if◌then◌else◌}
 use Rattle.std.specs.Int.{Width, w32, w64, byte_len, from_be_bytes}
 use Rattle.amq_model.specs.declared.record.Record.{Record}
-use Rattle.amq_model.specs.declared.record.Record.TheVariants.{Add, Update, AddTx, UpdateTx, DeleteTx, Delete, Prepare, Commit, Rollback}
 use Rattle.amq_model.specs.RecordAt.{Spot}
+use Rattle.amq_record.specs.declared.layout.BodyForm.{BodyForm}
+use Rattle.amq_record.specs.declared.layout.BodyForm.TheVariants.{Absent, Sized, Typed}
+use Rattle.amq_record.specs.declared.layout.Layout.{Layout}
+use Rattle.amq_record.specs.Layouts.{Values, kind_numbered, layout_of, record_from}
 
 -- a step, and then the next with its value
 infixl 10 ◌>>=◌
@@ -69,46 +72,26 @@ long_at bytes = number_at w64 bytes
 abbrev pub word_at : Field ℕ
 word_at bytes = number_at w32 bytes
 
--- the fields of each kind
-abbrev pub add_at : Field Record
-add_at bytes = as_at (λ x. Add x.0 x.1.0 x.1.1) (both_at long_at typed_at) bytes
+-- a number that may be there, or 0
+abbrev pub if_at : Bool → Field ℕ → Field ℕ
+if_at there field bytes = if there then field bytes else Some (0, bytes)
 
-abbrev pub update_at : Field Record
-update_at bytes = as_at (λ x. Update x.0 x.1.0 x.1.1) (both_at long_at typed_at) bytes
+-- a user type and a body of this form
+abbrev pub body_at : BodyForm → Field (ℕ × List ℕ)
+body_at Absent bytes = Some ((0, []), bytes)
+body_at Sized bytes = as_at (λ body. (0, body)) sized_at bytes
+body_at Typed bytes = typed_at bytes
 
-abbrev pub add_tx_at : Field Record
-add_tx_at bytes = as_at (λ x. AddTx x.0 x.1.0 x.1.1.0 x.1.1.1) (both_at long_at (both_at long_at typed_at)) bytes
-
-abbrev pub update_tx_at : Field Record
-update_tx_at bytes = as_at (λ x. UpdateTx x.0 x.1.0 x.1.1.0 x.1.1.1) (both_at long_at (both_at long_at typed_at)) bytes
-
-abbrev pub delete_tx_at : Field Record
-delete_tx_at bytes = as_at (λ x. DeleteTx x.0 x.1.0 x.1.1) (both_at long_at (both_at long_at sized_at)) bytes
-
-abbrev pub delete_at : Field Record
-delete_at bytes = as_at Delete long_at bytes
-
-abbrev pub prepare_at : Field Record
-prepare_at bytes = as_at (λ x. Prepare x.0 x.1.0 x.1.1) (both_at long_at (both_at word_at sized_at)) bytes
-
-abbrev pub commit_at : Field Record
-commit_at bytes = as_at (λ x. Commit x.0 x.1) (both_at long_at word_at) bytes
-
-abbrev pub rollback_at : Field Record
-rollback_at bytes = as_at Rollback long_at bytes
+-- the fields of a layout
+unfoldable pub layout_at : Layout → Field Values
+layout_at l bytes = both_at (if_at l.tx long_at) (both_at (if_at l.id long_at) (both_at (if_at l.count word_at) (body_at l.body))) bytes
 
 -- the fields of the kind with this number
 unfoldable pub fields_at : ℕ → Field Record
-fields_at kind bytes =
-    if kind == 11 then add_at bytes else (
-    if kind == 12 then update_at bytes else (
-    if kind == 13 then add_tx_at bytes else (
-    if kind == 14 then update_tx_at bytes else (
-    if kind == 15 then delete_tx_at bytes else (
-    if kind == 16 then delete_at bytes else (
-    if kind == 17 then prepare_at bytes else (
-    if kind == 18 then commit_at bytes else (
-    if kind == 19 then rollback_at bytes else None))))))))
+fields_at number bytes = do
+  kind ← kind_numbered number
+  values ← layout_at (layout_of kind) bytes
+  Some (record_from kind values.0, values.1)
 
 -- in version 1 there is no compact count
 unfoldable pub compact_at : ℕ → Field ℕ

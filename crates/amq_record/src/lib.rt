@@ -2,10 +2,12 @@
 //!
 //! Reading borrows: a `Spot` says where a record stands, and its `RecordRef` holds slices of the
 //! file's bytes. Nothing here but `RecordRef::to_record` takes memory. `docs/FORMAT.md` has the bytes
-//! of the nine kinds. `law` has the laws of the format that the crates above rest on.
+//! of the nine kinds, `layout` says which fields each has, and reading, length and writing go by that.
+//! `law` has the laws of the format that the crates above rest on.
 #![tactic(auto)]
 
 mod law;
+mod layout;
 mod parts;
 mod reading;
 mod spot;

@@ -1,8 +1,10 @@
 ghost use Rattle.std.specs.Prelude.{◌≡◌, ℕ, ◌<◌, ◌^◌, IfSome, IfNone};
 ghost use Rattle.amq_model.specs.RecordAt.{RecordAt, NoneAt};
 ghost use Rattle.amq_record.specs.Refs.{record_of, spot_of};
-ghost use Rattle.amq_record.specs.Reading.{Gives, add_at, update_at, add_tx_at, update_tx_at, delete_tx_at, delete_at, prepare_at, commit_at, rollback_at, fields_at, compact_at, front_of, read_at};
+ghost use Rattle.amq_record.specs.Reading.{Gives, long_at, word_at, if_at, body_at, layout_at, fields_at, compact_at, front_of, read_at};
+ghost use Rattle.amq_record.specs.Layouts.{values_of, record_from};
 
+use crate::layout::{BodyForm, Fields, Kind, Layout};
 use crate::parts::{byte, long, sized, typed, word};
 use crate::spot::{RecordRef, Spot};
 
@@ -66,115 +68,103 @@ fn compact_count(version: u32, bytes: &[u8]) -> Option<(u8, &[u8])>
 
 /// The fields of a record of this kind, which stand between its compact count and its check size.
 #[tactic(auto, unfolding(crate::specs::Reading::fields_at))]
-fn fields(kind: u8, bytes: &[u8]) -> Option<(RecordRef<'_>, &[u8])>
-    ensures { Gives (λ x. (record_of x.0, x.1.now)) result (fields_at kind bytes.now) }
+fn fields(number: u8, bytes: &[u8]) -> Option<(RecordRef<'_>, &[u8])>
+    ensures { Gives (λ x. (record_of x.0, x.1.now)) result (fields_at number bytes.now) }
 {
-    match kind {
-        11 => add(bytes),
-        12 => update(bytes),
-        13 => add_tx(bytes),
-        14 => update_tx(bytes),
-        15 => delete_tx(bytes),
-        16 => delete(bytes),
-        17 => prepare(bytes),
-        18 => commit(bytes),
-        19 => rollback(bytes),
-        _ => None,
+    let kind = Kind::numbered(number)?;
+    let (fields, rest) = fields_by(kind.layout(), bytes)?;
+    Some((record_with(kind, fields), rest))
+}
+
+/// The fields of this layout.
+#[tactic(auto, unfolding(crate::specs::Reading::layout_at))]
+fn fields_by(layout: Layout, bytes: &[u8]) -> Option<(Fields<'_>, &[u8])>
+    ensures { Gives (λ x. (values_of x.0, x.1.now)) result (layout_at layout bytes.now) }
+{
+    let (tx, rest) = long_if(layout.tx, bytes)?;
+    let (id, rest) = long_if(layout.id, rest)?;
+    let (count, rest) = word_if(layout.count, rest)?;
+    let (user_type, body, rest) = body(layout.body, rest)?;
+    let fields = Fields {
+        tx,
+        id,
+        count,
+        user_type,
+        body,
+    };
+    Some((fields, rest))
+}
+
+/// A number of 8 bytes that may be there.
+fn long_if(there: bool, bytes: &[u8]) -> Option<(u64, &[u8])>
+    ensures { Gives (λ x. (x.0, x.1.now)) result (if_at there long_at bytes.now) }
+{
+    if there { long(bytes) } else { Some((0, bytes)) }
+}
+
+/// A number of 4 bytes that may be there.
+fn word_if(there: bool, bytes: &[u8]) -> Option<(u32, &[u8])>
+    ensures { Gives (λ x. (x.0, x.1.now)) result (if_at there word_at bytes.now) }
+{
+    if there { word(bytes) } else { Some((0, bytes)) }
+}
+
+/// A user type and a body, as far as this form has them.
+fn body(form: BodyForm, bytes: &[u8]) -> Option<(u8, &[u8], &[u8])>
+    ensures { Gives (λ x. ((x.0, x.1.now), x.2.now)) result (body_at form bytes.now) }
+{
+    match form {
+        BodyForm::Absent => Some((0, &[], bytes)),
+        BodyForm::Sized => {
+            let (body, rest) = sized(bytes)?;
+            Some((0, body, rest))
+        }
+        BodyForm::Typed => typed(bytes),
     }
 }
 
-fn add(bytes: &[u8]) -> Option<(RecordRef<'_>, &[u8])>
-    ensures { Gives (λ x. (record_of x.0, x.1.now)) result (add_at bytes.now) }
+/// The record of this kind with these fields.
+fn record_with(kind: Kind, fields: Fields<'_>) -> RecordRef<'_>
+    ensures { record_of result ≡ record_from kind (values_of fields.entry) }
 {
-    let (id, rest) = long(bytes)?;
-    let (user_type, body, rest) = typed(rest)?;
-    let rec = RecordRef::Add {
-        id,
-        user_type,
-        body,
-    };
-    Some((rec, rest))
-}
-
-fn update(bytes: &[u8]) -> Option<(RecordRef<'_>, &[u8])>
-    ensures { Gives (λ x. (record_of x.0, x.1.now)) result (update_at bytes.now) }
-{
-    let (id, rest) = long(bytes)?;
-    let (user_type, body, rest) = typed(rest)?;
-    let rec = RecordRef::Update {
-        id,
-        user_type,
-        body,
-    };
-    Some((rec, rest))
-}
-
-fn add_tx(bytes: &[u8]) -> Option<(RecordRef<'_>, &[u8])>
-    ensures { Gives (λ x. (record_of x.0, x.1.now)) result (add_tx_at bytes.now) }
-{
-    let (tx, rest) = long(bytes)?;
-    let (id, rest) = long(rest)?;
-    let (user_type, body, rest) = typed(rest)?;
-    let rec = RecordRef::AddTx {
+    let Fields {
         tx,
         id,
+        count,
         user_type,
         body,
-    };
-    Some((rec, rest))
-}
-
-fn update_tx(bytes: &[u8]) -> Option<(RecordRef<'_>, &[u8])>
-    ensures { Gives (λ x. (record_of x.0, x.1.now)) result (update_tx_at bytes.now) }
-{
-    let (tx, rest) = long(bytes)?;
-    let (id, rest) = long(rest)?;
-    let (user_type, body, rest) = typed(rest)?;
-    let rec = RecordRef::UpdateTx {
-        tx,
-        id,
-        user_type,
-        body,
-    };
-    Some((rec, rest))
-}
-
-fn delete_tx(bytes: &[u8]) -> Option<(RecordRef<'_>, &[u8])>
-    ensures { Gives (λ x. (record_of x.0, x.1.now)) result (delete_tx_at bytes.now) }
-{
-    let (tx, rest) = long(bytes)?;
-    let (id, rest) = long(rest)?;
-    let (body, rest) = sized(rest)?;
-    Some((RecordRef::DeleteTx { tx, id, body }, rest))
-}
-
-fn delete(bytes: &[u8]) -> Option<(RecordRef<'_>, &[u8])>
-    ensures { Gives (λ x. (record_of x.0, x.1.now)) result (delete_at bytes.now) }
-{
-    let (id, rest) = long(bytes)?;
-    Some((RecordRef::Delete { id }, rest))
-}
-
-fn prepare(bytes: &[u8]) -> Option<(RecordRef<'_>, &[u8])>
-    ensures { Gives (λ x. (record_of x.0, x.1.now)) result (prepare_at bytes.now) }
-{
-    let (tx, rest) = long(bytes)?;
-    let (count, rest) = word(rest)?;
-    let (extra, rest) = sized(rest)?;
-    Some((RecordRef::Prepare { tx, count, extra }, rest))
-}
-
-fn commit(bytes: &[u8]) -> Option<(RecordRef<'_>, &[u8])>
-    ensures { Gives (λ x. (record_of x.0, x.1.now)) result (commit_at bytes.now) }
-{
-    let (tx, rest) = long(bytes)?;
-    let (count, rest) = word(rest)?;
-    Some((RecordRef::Commit { tx, count }, rest))
-}
-
-fn rollback(bytes: &[u8]) -> Option<(RecordRef<'_>, &[u8])>
-    ensures { Gives (λ x. (record_of x.0, x.1.now)) result (rollback_at bytes.now) }
-{
-    let (tx, rest) = long(bytes)?;
-    Some((RecordRef::Rollback { tx }, rest))
+    } = fields;
+    match kind {
+        Kind::Add => RecordRef::Add {
+            id,
+            user_type,
+            body,
+        },
+        Kind::Update => RecordRef::Update {
+            id,
+            user_type,
+            body,
+        },
+        Kind::AddTx => RecordRef::AddTx {
+            tx,
+            id,
+            user_type,
+            body,
+        },
+        Kind::UpdateTx => RecordRef::UpdateTx {
+            tx,
+            id,
+            user_type,
+            body,
+        },
+        Kind::DeleteTx => RecordRef::DeleteTx { tx, id, body },
+        Kind::Delete => RecordRef::Delete { id },
+        Kind::Prepare => RecordRef::Prepare {
+            tx,
+            count,
+            extra: body,
+        },
+        Kind::Commit => RecordRef::Commit { tx, count },
+        Kind::Rollback => RecordRef::Rollback { tx },
+    }
 }

@@ -1,22 +1,17 @@
 ghost use Rattle.std.specs.Prelude.{◌≡◌, ℕ, ◌+◌, ◌≤◌, ◌<◌, ◌^◌, ◌++◌, ◌∷◌, length, vec_len, vec_capacity};
 ghost use Rattle.amq_model.specs.RecordAt.{kind_of, fields_of, len_of, spelling, long, word};
+ghost use Rattle.amq_record.specs.Layouts.{values_of, spelled_if, spelled_body, spelled_by};
 
+use crate::layout::{BodyForm, Fields, Kind, Layout};
 use amq_model::Record;
 
 /// The record's whole length in a file, in bytes.
+#[tactic(auto, using(crate::proofs::Layouts::len_is))]
 pub fn encoded_len(rec: &Record) -> u64
     ensures { result ≡ len_of rec.now }
 {
-    match rec {
-        Record::Add { body, .. } | Record::Update { body, .. } => 23 + body.as_slice().len() as u64,
-        Record::AddTx { body, .. } | Record::UpdateTx { body, .. } => {
-            31 + body.as_slice().len() as u64
-        }
-        Record::DeleteTx { body, .. } => 30 + body.as_slice().len() as u64,
-        Record::Prepare { extra, .. } => 26 + extra.as_slice().len() as u64,
-        Record::Commit { .. } => 22,
-        Record::Delete { .. } | Record::Rollback { .. } => 18,
-    }
+    let layout = Kind::of(rec).layout();
+    layout.len() + Fields::of(rec).body.len() as u64
 }
 
 /// Writes the record behind `out`, in the memory that `out` has to spare.
@@ -33,79 +28,82 @@ pub fn encode_into(out: &mut Vec<u8>, fid: u32, compact: u8, rec: &Record)
     out.push_reserved(kind_byte(rec));
     put_word(out, fid);
     out.push_reserved(compact);
-    put_fields(out, rec);
+    put_record(out, rec);
     put_word(out, len);
 }
 
+#[tactic(auto, using(crate::proofs::Layouts::kind_is))]
 fn kind_byte(rec: &Record) -> u8
     ensures { result ≡ kind_of rec.now }
 {
-    match rec {
-        Record::Add { .. } => 11,
-        Record::Update { .. } => 12,
-        Record::AddTx { .. } => 13,
-        Record::UpdateTx { .. } => 14,
-        Record::DeleteTx { .. } => 15,
-        Record::Delete { .. } => 16,
-        Record::Prepare { .. } => 17,
-        Record::Commit { .. } => 18,
-        Record::Rollback { .. } => 19,
-    }
+    Kind::of(rec).number()
 }
 
-fn put_fields(out: &mut Vec<u8>, rec: &Record)
+/// What stands between the record's compact count and its check size.
+#[tactic(auto, using(crate::proofs::Layouts::spelled_is, crate::proofs::Layouts::body_short))]
+fn put_record(out: &mut Vec<u8>, rec: &Record)
     requires room { vec_len out.old + len_of rec.now ≤ vec_capacity out.old + 10 }
     requires short { len_of rec.now < 2 ^ 31 }
     ensures items { out.new.items ≡ out.old.items ++ fields_of rec.now }
     ensures len { vec_len out.new + 10 ≡ vec_len out.old + len_of rec.now }
     ensures capacity { vec_capacity out.old ≤ vec_capacity out.new }
 {
-    match rec {
-        Record::Add {
-            id,
-            user_type,
-            body,
-        }
-        | Record::Update {
-            id,
-            user_type,
-            body,
-        } => {
-            put_long(out, *id);
-            put_typed(out, *user_type, body.as_slice());
-        }
-        Record::AddTx {
-            tx,
-            id,
-            user_type,
-            body,
-        }
-        | Record::UpdateTx {
-            tx,
-            id,
-            user_type,
-            body,
-        } => {
-            put_long(out, *tx);
-            put_long(out, *id);
-            put_typed(out, *user_type, body.as_slice());
-        }
-        Record::DeleteTx { tx, id, body } => {
-            put_long(out, *tx);
-            put_long(out, *id);
-            put_sized(out, body.as_slice());
-        }
-        Record::Delete { id } => put_long(out, *id),
-        Record::Prepare { tx, count, extra } => {
-            put_long(out, *tx);
-            put_word(out, *count);
-            put_sized(out, extra.as_slice());
-        }
-        Record::Commit { tx, count } => {
-            put_long(out, *tx);
-            put_word(out, *count);
-        }
-        Record::Rollback { tx } => put_long(out, *tx),
+    put_fields(out, Kind::of(rec).layout(), Fields::of(rec));
+}
+
+/// The fields of this layout, one behind the other.
+fn put_fields(out: &mut Vec<u8>, layout: Layout, fields: Fields<'_>)
+    requires room { vec_len out.old + length (spelled_by layout (values_of fields)) ≤ vec_capacity out.old }
+    requires short { length fields.body.now < 2 ^ 31 }
+    ensures items { out.new.items ≡ out.old.items ++ spelled_by layout (values_of fields.entry) }
+    ensures len { vec_len out.new ≡ vec_len out.old + length (spelled_by layout (values_of fields.entry)) }
+    ensures capacity { vec_capacity out.old ≤ vec_capacity out.new }
+{
+    put_long_if(out, layout.tx, fields.tx);
+    put_long_if(out, layout.id, fields.id);
+    put_word_if(out, layout.count, fields.count);
+    put_body(out, layout.body, fields.user_type, fields.body);
+}
+
+/// A number of 8 bytes that may be there.
+#[tactic(auto, using(crate::proofs::Lengths::length_long))]
+fn put_long_if(out: &mut Vec<u8>, there: bool, n: u64)
+    requires { vec_len out.old + length (spelled_if there long n) ≤ vec_capacity out.old }
+    ensures items { out.new.items ≡ out.old.items ++ spelled_if there long n }
+    ensures len { vec_len out.new ≡ vec_len out.old + length (spelled_if there long n) }
+    ensures capacity { vec_capacity out.old ≤ vec_capacity out.new }
+{
+    if there {
+        put_long(out, n);
+    }
+}
+
+/// A number of 4 bytes that may be there.
+#[tactic(auto, using(crate::proofs::Lengths::length_word))]
+fn put_word_if(out: &mut Vec<u8>, there: bool, n: u32)
+    requires { vec_len out.old + length (spelled_if there word n) ≤ vec_capacity out.old }
+    ensures items { out.new.items ≡ out.old.items ++ spelled_if there word n }
+    ensures len { vec_len out.new ≡ vec_len out.old + length (spelled_if there word n) }
+    ensures capacity { vec_capacity out.old ≤ vec_capacity out.new }
+{
+    if there {
+        put_word(out, n);
+    }
+}
+
+/// A body of this form.
+#[tactic(auto, using(crate::proofs::Lengths::length_sized, crate::proofs::Lengths::length_typed))]
+fn put_body(out: &mut Vec<u8>, form: BodyForm, user_type: u8, body: &[u8])
+    requires room { vec_len out.old + length (spelled_body form (user_type, body.now)) ≤ vec_capacity out.old }
+    requires short { length body.now < 2 ^ 31 }
+    ensures items { out.new.items ≡ out.old.items ++ spelled_body form (user_type, body.now) }
+    ensures len { vec_len out.new ≡ vec_len out.old + length (spelled_body form (user_type, body.now)) }
+    ensures capacity { vec_capacity out.old ≤ vec_capacity out.new }
+{
+    match form {
+        BodyForm::Absent => {}
+        BodyForm::Sized => put_sized(out, body),
+        BodyForm::Typed => put_typed(out, user_type, body),
     }
 }
 

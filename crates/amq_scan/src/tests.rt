@@ -60,6 +60,24 @@ fn records_with_filling_between(rt: HostRuntime) -> Result<(), Fail> {
     check(&rt, rt.alloc(), &[ADD_TX, &[0x4a; 33], COMMIT], &expected)
 }
 
+/// The whole of one record lies about its size, so the two within it are found.
+#[test]
+fn records_within_one_that_lies(rt: HostRuntime) -> Result<(), Fail> {
+    let expected = [(35, Brief::Put { id: 1 }), (60, Brief::Put { id: 2 })];
+    let front = b"\x0b\x00\x00\x00\x01\x00\x00\x00\x00\x00\x00\x00\x00\x03\x00\x00\x00\x32\x07";
+    check(
+        &rt,
+        rt.alloc(),
+        &[front, ADD, SECOND_ADD, b"\x00\x00\x00\x48"],
+        &expected,
+    )
+}
+
+#[test]
+fn a_record_cut_at_its_last_byte(rt: HostRuntime) -> Result<(), Fail> {
+    check(&rt, rt.alloc(), &[&ADD[..24]], &[])
+}
+
 #[test]
 fn a_padded_header(rt: HostRuntime) -> Result<(), Fail> {
     check(
