@@ -1,3 +1,6 @@
+ghost use Rattle.std.specs.Prelude.{◌≡◌, IfOk, if◌then◌else◌};
+ghost use Rattle.amq_model.specs.RecordAt.{kind_of};
+
 use crate::loads::load_file;
 use crate::numbers::Numbers;
 use crate::outcome::Outcome;
@@ -36,7 +39,9 @@ fn plain_file(alloc: Global, records: usize) -> Result<RecordFile, NoMemory> {
 }
 
 /// The record that adds the id of this number, or deletes it where it is live.
-fn changed(alloc: Global, number: u64, live: bool) -> Result<Record, NoMemory> {
+fn changed(alloc: Global, number: u64, live: bool) -> Result<Record, NoMemory>
+    ensures { IfOk result (λ r. kind_of r ≡ (if live then 16 else 11)) }
+{
     let id = number.wrapping_mul(ID_STEP);
     if live {
         return Ok(Record::Delete { id });

@@ -1,3 +1,7 @@
+ghost use Rattle.std.specs.Prelude.{◌≡◌, map, IfOk};
+ghost use Rattle.amq_model.specs.Effect.{result_of};
+ghost use Rattle.amq_state.specs.Fed.{placed_of};
+
 use crate::outcome::{Outcome, Shortest};
 use crate::record_file::{FILE_ID, FORMAT_VERSION, RecordFile};
 use amq_model::{LoadState, NoMemory};
@@ -15,7 +19,7 @@ pub fn load_file<R: AllocGlobal + Clock>(
     file: &RecordFile,
     repeats: u32,
 ) -> Result<Outcome> {
-    let spots = scan(rt.alloc(), file.bytes(), FILE_ID, FORMAT_VERSION)?;
+    let spots = scan(rt.alloc(), file.bytes.as_slice(), FILE_ID, FORMAT_VERSION)?;
     let mut shortest = Shortest::new();
     let mut live = 0;
     for _ in 0..repeats {
@@ -25,14 +29,17 @@ pub fn load_file<R: AllocGlobal + Clock>(
         live = state.live.len();
     }
     Ok(Outcome {
-        bytes: file.len(),
+        bytes: file.bytes.len(),
         records: spots.len(),
         live: Some(live),
         micros: shortest.micros,
     })
 }
 
-fn load(alloc: Global, spots: &[Spot<'_>]) -> Result<LoadState, NoMemory> {
+/// What these records of one file load to.
+fn load(alloc: Global, spots: &[Spot<'_>]) -> Result<LoadState, NoMemory>
+    ensures { IfOk result (λ s. s ≡ result_of (map (placed_of 1) spots.now)) }
+{
     let mut loading = Loading::new(alloc);
     loading.feed_file(u64::from(FILE_ID), spots)?;
     loading.finish()

@@ -1,4 +1,6 @@
 //! What a measure went over, and how long it took.
+ghost use Rattle.std.specs.Prelude.{◌≤◌};
+
 use std::rt::Clock;
 use std::time::{Duration, Instant};
 use std::{fmt, io};
@@ -38,7 +40,9 @@ impl Shortest {
     }
 
     /// Takes in the time since `start`.
-    pub fn note_since(&mut self, clock: &impl Clock, start: Instant) -> io::Result<()> {
+    pub fn note_since(&mut self, clock: &impl Clock, start: Instant) -> io::Result<()>
+        ensures { self.new.micros ≤ self.old.micros }
+    {
         let micros = micros_of(start.elapsed(clock)?);
         self.micros = self.micros.min(micros);
         Ok(())

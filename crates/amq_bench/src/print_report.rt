@@ -1,3 +1,5 @@
+ghost use Rattle.std.specs.Prelude.{◌≡◌, length, IfOk};
+
 use crate::outcome::{Outcome, Shortest};
 use amq_model::{Bytes, Entry, EntryKind, Items, LoadState, NoMemory};
 use amq_print::report;
@@ -28,7 +30,10 @@ pub fn print_report<R: AllocGlobal + Clock>(rt: &R, size: usize, repeats: u32) -
     })
 }
 
-fn state(alloc: Global, count: usize) -> Result<LoadState, NoMemory> {
+/// So many live records.
+fn state(alloc: Global, count: usize) -> Result<LoadState, NoMemory>
+    ensures { IfOk result (λ s. length s.live ≡ count) }
+{
     let mut live = Vec::new(alloc);
     for i in 0..count {
         if live.push(entry(alloc, i as u64)?).is_err() {
@@ -41,7 +46,9 @@ fn state(alloc: Global, count: usize) -> Result<LoadState, NoMemory> {
     })
 }
 
-fn entry(alloc: Global, id: u64) -> Result<Entry, NoMemory> {
+fn entry(alloc: Global, id: u64) -> Result<Entry, NoMemory>
+    ensures { IfOk result (λ e. length e.body ≡ BODY_LEN) }
+{
     let fill = (id % 256) as u8;
     match vec![in alloc; fill; BODY_LEN] {
         Ok(body) => Ok(Entry {

@@ -1,3 +1,6 @@
+ghost use Rattle.std.specs.Prelude.{◌≡◌, ◌++◌, OnOk, OnErr};
+ghost use Rattle.amq_model.specs.RecordAt.{spelling};
+
 use amq_model::{NoMemory, Record};
 use amq_record::{encode_into, encoded_len};
 use std::alloc::Global;
@@ -13,8 +16,9 @@ const LENGTH_LIMIT: u64 = 0x8000_0000;
 /// The bytes of a file: its header, and records one behind the other.
 #[derive(Drop)]
 pub struct RecordFile {
-    bytes: Vec<u8>,
-    records: usize,
+    pub bytes: Vec<u8>,
+    /// How many records it has.
+    pub records: usize,
 }
 
 impl RecordFile {
@@ -27,28 +31,21 @@ impl RecordFile {
     }
 
     /// Writes the record behind the others.
-    pub fn put(&mut self, rec: &Record) -> Result<(), NoMemory> {
+    pub fn put(&mut self, rec: &Record) -> Result<(), NoMemory>
+        ensures ok { OnOk result (self.new.bytes.items ≡ self.old.bytes.items ++ spelling 2 1 0 rec.now) }
+        ensures err { OnErr result (self.new.bytes.items ≡ self.old.bytes.items) }
+    {
         encode_behind(&mut self.bytes, rec)?;
         self.records = self.records.saturating_add(1);
         Ok(())
     }
-
-    pub fn bytes(&self) -> &[u8] {
-        self.bytes.as_slice()
-    }
-
-    pub fn len(&self) -> usize {
-        self.bytes.len()
-    }
-
-    /// How many records it has.
-    pub fn records(&self) -> usize {
-        self.records
-    }
 }
 
-/// Writes the record behind these bytes.
-pub fn encode_behind(out: &mut Vec<u8>, rec: &Record) -> Result<(), NoMemory> {
+/// Writes the record behind these bytes, as one of the file of id 1.
+pub fn encode_behind(out: &mut Vec<u8>, rec: &Record) -> Result<(), NoMemory>
+    ensures ok { OnOk result (out.new.items ≡ out.old.items ++ spelling 2 1 0 rec.now) }
+    ensures err { OnErr result (out.new.items ≡ out.old.items) }
+{
     let len = encoded_len(rec);
     if len >= LENGTH_LIMIT || out.reserve(len as usize).is_err() {
         return Err(NoMemory);

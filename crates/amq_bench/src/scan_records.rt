@@ -1,3 +1,6 @@
+ghost use Rattle.std.specs.Prelude.{◌≡◌, IfOk};
+ghost use Rattle.amq_model.specs.RecordAt.{len_of};
+
 use crate::outcome::Outcome;
 use crate::record_file::RecordFile;
 use crate::scans::scan_file;
@@ -18,11 +21,13 @@ pub fn scan_records<R: AllocGlobal + Clock>(rt: &R, size: usize, repeats: u32) -
     for i in 0..size / RECORD_LEN {
         file.put(&record(rt.alloc(), i as u64)?)?;
     }
-    scan_file(rt, file.bytes(), repeats)
+    scan_file(rt, file.bytes.as_slice(), repeats)
 }
 
-/// An ADD of 125 bytes.
-pub fn record(alloc: Global, id: u64) -> Result<Record, NoMemory> {
+/// An ADD.
+pub fn record(alloc: Global, id: u64) -> Result<Record, NoMemory>
+    ensures { IfOk result (λ r. len_of r ≡ RECORD_LEN) }
+{
     let fill = (id % 256) as u8;
     match vec![in alloc; fill; BODY_LEN] {
         Ok(body) => Ok(Record::Add {

@@ -1,3 +1,5 @@
+ghost use Rattle.std.specs.Prelude.{◌≡◌, length, IfOk};
+
 use crate::outcome::{Outcome, Shortest};
 use crate::record_file::{FILE_ID, FORMAT_VERSION};
 use amq_scan::scan;
@@ -6,7 +8,9 @@ use std::rt::Clock;
 use std::time::Instant;
 
 /// Scans the file again and again.
-pub fn scan_file<R: AllocGlobal + Clock>(rt: &R, bytes: &[u8], repeats: u32) -> Result<Outcome> {
+pub fn scan_file<R: AllocGlobal + Clock>(rt: &R, bytes: &[u8], repeats: u32) -> Result<Outcome>
+    ensures { IfOk result (λ outcome. outcome.bytes ≡ length bytes.now) }
+{
     let mut shortest = Shortest::new();
     let mut records = 0;
     for _ in 0..repeats {
