@@ -7,6 +7,7 @@ pub mod Directories
 pub mod EffectGrows
 pub mod Effects
 pub mod Fewer
+pub mod GeneratorExamples
 pub mod Grows
 pub mod Keeping
 pub mod KeptExamples
@@ -14,6 +15,7 @@ pub mod Literals
 pub mod Lookups
 pub mod Moments
 pub mod Plain
+pub mod RecordLinesExamples
 pub mod Recovering
 pub mod Scans
 pub mod Settling

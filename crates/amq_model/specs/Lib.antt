@@ -18,3 +18,5 @@ pub mod Configs
 pub mod Texts
 pub mod Script
 pub mod Headline
+pub mod RecordLines
+pub mod Generator
