@@ -1,12 +1,15 @@
-//! The texts that the program writes: reply lines and the report.
+//! The texts that the program writes: reply lines, the report, and the lines of records.
 //!
 //! `docs/FORMAT.md` has each line. Numbers are decimal, bodies lower-case hexadecimal digits or `-`.
+//! `words` writes a line, `replies`, `reports` and `records` say what stands in it.
 #![tactic(auto)]
 
+mod records;
 mod replies;
 mod reports;
 mod words;
 
+pub use records::record_lines;
 pub use replies::push_answer;
 pub use reports::report;
 

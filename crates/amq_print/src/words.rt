@@ -1,6 +1,6 @@
 //! Lines of words.
 ghost use Rattle.std.specs.Prelude.{◌<◌, false, ◌≡◌, ◌++◌, ◌∷◌, [], OnOk, OnErr, length, take, map};
-ghost use Rattle.std.specs.List.{flat_map};
+ghost use Rattle.std.specs.List.{flat_map, join_with_byte};
 ghost use Rattle.std.specs.Fmt.{digit_glyph};
 ghost use Rattle.amq_model.specs.Texts.{line, hex, hex_digits};
 ghost use Rattle.amq_print.specs.Words.{word_text};
@@ -35,9 +35,32 @@ pub fn push_line(out: &mut Vec<u8>, words: &[Word]) -> Result<(), NoMemory>
     }
 }
 
+/// Appends a space, the name, a space and the value. After want of memory a part of it may stand there.
+pub fn write_field(out: &mut Vec<u8>, name: &str, value: Word) -> Result<(), AllocError>
+    ensures { OnOk result
+        (out.new.items ≡ out.old.items ++ (32 ∷ name.now) ++ (32 ∷ word_text value.entry)) }
+{
+    out.push(b' ')?;
+    out.extend_from_slice(name.as_bytes())?;
+    out.push(b' ')?;
+    write_word(out, &value)
+}
+
 /// Appends a line of these words. After want of memory a part of it may stand behind the text.
 fn write_line(out: &mut Vec<u8>, words: &[Word]) -> Result<(), AllocError>
     ensures ok { OnOk result (out.new.items ≡ out.old.items ++ line (map word_text words.now)) }
+    ensures err { OnErr result (take (length out.old.items) out.new.items ≡ out.old.items) }
+{
+    write_words(out, words)?;
+    out.push(b'\n')?;
+    Ok(())
+}
+
+/// Appends the words with a space between each two. After want of memory a part of them may stand
+/// behind the text.
+pub fn write_words(out: &mut Vec<u8>, words: &[Word]) -> Result<(), AllocError>
+    ensures ok { OnOk result
+        (out.new.items ≡ out.old.items ++ join_with_byte 32 (map word_text words.now)) }
     ensures err { OnErr result (take (length out.old.items) out.new.items ≡ out.old.items) }
 {
     for (i, word) in words.iter().enumerate() {
@@ -46,7 +69,6 @@ fn write_line(out: &mut Vec<u8>, words: &[Word]) -> Result<(), AllocError>
         }
         write_word(out, word)?;
     }
-    out.push(b'\n')?;
     Ok(())
 }
 

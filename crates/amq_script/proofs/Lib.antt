@@ -1,4 +1,5 @@
 pub mod Digits
+pub mod Extending
 pub mod Pairs
 pub mod Letters
 pub mod Members

@@ -35,9 +35,10 @@ pub fn parse(alloc: Global, bytes: &[u8], mode: Mode) -> Result<Script, ScriptFa
     ensures err { IfErr result (λ fault. IsRefused fault (script_of mode bytes.now)) }
 {
     let mut reader = Reader::new(alloc);
+    let mut words = Vec::new(alloc);
     let mut number = 1;
     for line in bytes.split(|byte| *byte == b'\n') {
-        match reader.read_line(alloc, mode, line) {
+        match reader.read_line(alloc, mode, &mut words, line) {
             Ok(()) => number += 1,
             Err(fault) => return Err(fault.at(number)),
         }
@@ -60,13 +61,19 @@ impl Reader {
         }
     }
 
-    /// Reads a line.
-    fn read_line(&mut self, alloc: Global, mode: Mode, line: &[u8]) -> Result<(), LineFault>
+    /// Reads a line; `words` lends its memory.
+    fn read_line<'a>(
+        &mut self,
+        alloc: Global,
+        mode: Mode,
+        words: &mut Vec<&'a [u8]>,
+        line: &'a [u8],
+    ) -> Result<(), LineFault>
         ensures { (saids : List Said)
             → HasRead saids self.old
             → HasReadLine mode saids line.now result self.new }
     {
-        match self.line_says(alloc, mode, line)? {
+        match self.line_says(alloc, mode, words, line)? {
             Some(said) => {
                 self.take(alloc, said)?;
                 Ok(())
@@ -75,13 +82,19 @@ impl Reader {
         }
     }
 
-    /// What a line says behind those that were read.
-    fn line_says(&self, alloc: Global, mode: Mode, line: &[u8]) -> Result<Option<Said>, LineFault>
+    /// What a line says behind those that were read; `words` lends its memory.
+    fn line_says<'a>(
+        &self,
+        alloc: Global,
+        mode: Mode,
+        words: &mut Vec<&'a [u8]>,
+        line: &'a [u8],
+    ) -> Result<Option<Said>, LineFault>
         ensures { (saids : List Said)
             → HasRead saids self.now
             → Reads result (line_says mode saids line.now) }
     {
-        let words = split_words(alloc, line)?;
+        split_words(words, line)?;
         words_say(
             alloc,
             mode,

@@ -127,6 +127,7 @@ fn first_wrong_line(rt: HostRuntime) -> Result<(), Fail> {
         ("tick 1", Mode::Run, 1, ScriptCause::UnknownWord),
         (" # x", Mode::Replay, 1, ScriptCause::UnknownWord),
         ("flush\r", Mode::Replay, 1, ScriptCause::UnknownWord),
+        ("add\t1 7 -", Mode::Replay, 1, ScriptCause::UnknownWord),
         ("\nadd 1 7 -", Mode::Run, 2, ScriptCause::Section),
         ("add 1 7", Mode::Replay, 1, ScriptCause::Arguments),
         ("flush 1", Mode::Replay, 1, ScriptCause::Arguments),
@@ -148,6 +149,12 @@ fn first_wrong_line(rt: HostRuntime) -> Result<(), Fail> {
         ("add 1 256 -", Mode::Replay, 1, ScriptCause::Number),
         (
             "add 9223372036854775808 7 -",
+            Mode::Replay,
+            1,
+            ScriptCause::Number,
+        ),
+        (
+            "add 00000000000000000001 7 -",
             Mode::Replay,
             1,
             ScriptCause::Number,

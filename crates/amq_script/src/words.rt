@@ -1,28 +1,31 @@
 //! The words of a line.
-ghost use Rattle.std.specs.Prelude.{◌≡◌, IfOk, map};
+ghost use Rattle.std.specs.Prelude.{◌≡◌, ◌++◌, OnOk, map};
 ghost use Rattle.amq_model.specs.Script.{words_said, words_of};
 
 use amq_model::NoMemory;
-use std::alloc::{AllocError, Global};
 
-/// The words that a line says: none where its first byte is `#`.
-pub fn split_words<'a>(alloc: Global, line: &'a [u8]) -> Result<Vec<&'a [u8]>, NoMemory>
-    ensures { IfOk result (λ v. map (λ word. word.now) v.items ≡ words_said line.now) }
+/// Puts the words that a line says in the place of those that were there: none where its first byte
+/// is `#`. The memory of the list serves again.
+pub fn split_words<'a>(words: &mut Vec<&'a [u8]>, line: &'a [u8]) -> Result<(), NoMemory>
+    ensures { OnOk result (map (λ word. word.now) words.new.items ≡ words_said line.now) }
 {
+    words.clear();
     if line.first() == Some(&b'#') {
-        return Ok(Vec::new(alloc));
+        return Ok(());
     }
-    match words(alloc, line) {
-        Ok(words) => Ok(words),
-        Err(_) => Err(NoMemory),
-    }
+    push_words(words, line)
 }
 
-/// The parts of a line between its spaces that aren't empty.
-fn words<'a>(alloc: Global, line: &'a [u8]) -> Result<Vec<&'a [u8]>, AllocError>
-    ensures { IfOk result (λ v. map (λ word. word.now) v.items ≡ words_of line.now) }
+/// Appends the parts of a line between its spaces that aren't empty.
+fn push_words<'a>(words: &mut Vec<&'a [u8]>, line: &'a [u8]) -> Result<(), NoMemory>
+    ensures { OnOk result (map (λ word. word.now) words.new.items
+        ≡ map (λ word. word.now) words.old.items ++ words_of line.now) }
 {
-    line.split(|byte| *byte == b' ')
-        .filter(|word| !word.is_empty())
-        .collect(alloc)
+    let parts = line
+        .split(|byte| *byte == b' ')
+        .filter(|word| !word.is_empty());
+    match words.extend(parts) {
+        Ok(()) => Ok(()),
+        Err(_) => Err(NoMemory),
+    }
 }

@@ -3,8 +3,8 @@ use Rattle.amq_print.specs.declared.words.Word.{Word}
 use Rattle.amq_print.specs.declared.words.Word.TheVariants.{Text}
 use Rattle.amq_print.specs.Words.{word_text}
 use Rattle.amq_print.proofs.Joins.{first_word, next_word, take_front, on_err}
-use Rattle.amq_print.proofs.words.write_line.Goals.{then-i-gt0+in_ok-push, else-i-gt0}
-use Rattle.amq_print.proofs.words.write_line.Goals as goal
+use Rattle.amq_print.proofs.words.write_words.Goals.{then-i-gt0+in_ok-push, else-i-gt0}
+use Rattle.amq_print.proofs.words.write_words.Goals as goal
 
 -- the word that a list has past its end
 abbrev past : Word
