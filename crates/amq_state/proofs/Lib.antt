@@ -1,2 +1,11 @@
 pub mod Backward
 pub mod Lists
+pub mod TurnLaws
+pub mod TableLaws
+pub mod AscendingLaws
+pub mod EntryLaws
+pub mod TouchedLaws
+pub mod HeldLaws
+pub mod OpenLaws
+pub mod OpenExamples
+pub mod FedLaws

@@ -1,18 +1,21 @@
 -- Lists, taken from the front and from the back, and what one record more does.
-use Rattle.std.proofs.Common.{◌≡◌, ℕ, suc, ◌+◌, ◌<◌, Bool, true, false, cond, List, [], ◌∷◌, ◌++◌, length, take, drop, get_or, Option, Some, None, refl, sym, ap, ◌∙◌, append_assoc, add-one, Bor, eqb}
-use Rattle.std.specs.Prelude.{nat_lt}
+use Rattle.std.proofs.Common.{◌≡◌, ℕ, suc, ◌+◌, ◌<◌, Bool, true, false, cond, List, [], ◌∷◌, ◌++◌, length, take, drop, get_or, Option, Some, None, refl, sym, ap, ◌∙◌, append_assoc, add-one, Bor, eqb, arith}
+use Rattle.std.specs.Prelude.{nat_lt, max, fold}
 use Rattle.std.specs.List.{cons_option, filter_map}
-use Rattle.std.specs.Option.{option_to_list}
+use Rattle.std.specs.Option.{option_to_list, unwrap_or}
 use Rattle.std.proofs.Common.{Less, Equal, Greater}
 use Rattle.std.specs.Ordering.{nat_cmp, match_ordering}
 use Rattle.std.specs.BTreeSet.{insert_key}
 use Rattle.std.proofs.Math.Seq.{take-suc, drop-cons}
 use Rattle.std.proofs.lemmas.List.{take-map, drop-map}
 use Rattle.std.proofs.lemmas.List.Elements.{filter_map-append}
+use Rattle.std.proofs.lemmas.List.Sums.{fold-append}
 use Rattle.amq_model.specs.declared.record.Placed.{Placed}
 use Rattle.amq_model.specs.Effect.{among, ascending, open_changes, in_effect, effect_of, prepared_here, prepared_from, ends, changes, last_of}
 use Rattle.amq_model.proofs.EffectGrows.{effect_grows}
 use Rattle.amq_model.proofs.Grows.{open_changes-snoc}
+use Rattle.amq_model.specs.Answers.{number_of}
+use Rattle.amq_state.specs.Open.{highest_of}
 use Rattle.amq_state.specs.Backward.{values}
 use Rattle.amq_state.specs.Plain.{numbered, bytes_or_none, opened}
 
@@ -32,7 +35,7 @@ one_value ps i p lt is =
       more [] q = refl
       more (r ∷ qs) q = ap (λ (ps : List Placed). r.now ∷ ps) (more qs q)
 
-one_found : {Y : Type 0} (h : Placed → Option Y) (p : Placed) → filter_map h (p ∷ []) ≡ option_to_list (h p)
+pub one_found : {Y : Type 0} (h : Placed → Option Y) (p : Placed) → filter_map h (p ∷ []) ≡ option_to_list (h p)
 one_found {Y = Y} h p = by (h p) where
   by : (o : Option Y) → cons_option o [] ≡ option_to_list o
   by None = refl
@@ -103,3 +106,14 @@ pub last_more : (tx : ℕ) (xs : List (ℕ × Bor (List ℕ))) (i : ℕ) (x : �
     → last_of tx (drop i (numbered xs)) (bytes_or_none old) ≡ last → bytes_or_none new ≡ cond (eqb x.0 tx) x.1.now (bytes_or_none old) → last_of tx (drop (i + 1) (numbered xs)) (bytes_or_none new) ≡ last
 last_more tx xs i x old new last lt is before now =
     ap (last_of tx (drop (i + 1) (numbered xs))) now ∙ ap (λ (ys : List (ℕ × List ℕ)). last_of tx ys (bytes_or_none old)) (sym (one_numbered xs i x lt is)) ∙ before
+
+-- the highest number
+pub highest_more : (l : List Placed) (i : ℕ) (p : Placed) (old new : ℕ) → i < length l → p ≡ get_or l i p → old ≡ highest_of (take i l) → new ≡ max old (unwrap_or (number_of p.rec) 0) → new ≡ highest_of (take (i + 1) l)
+highest_more l i p old new lt is before now =
+    now ∙ ap (λ (n : ℕ). max n (unwrap_or (number_of p.rec) 0)) before ∙ by (number_of p.rec)
+    ∙ ap (fold max (highest_of (take i l))) (sym (one_found (λ p. number_of p.rec) p))
+    ∙ sym (fold-append max 0 (filter_map (λ p. number_of p.rec) (take i l)) (filter_map (λ p. number_of p.rec) (p ∷ [])))
+    ∙ ap (fold max 0) (sym (filter_map-append (λ p. number_of p.rec) (take i l) (p ∷ []))) ∙ ap highest_of (sym (one_taken l i p lt is)) where
+      by : (o : Option ℕ) → max (highest_of (take i l)) (unwrap_or o 0) ≡ fold max (highest_of (take i l)) (option_to_list o)
+      by None = omega arith
+      by (Some n) = refl

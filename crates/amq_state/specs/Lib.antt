@@ -2,3 +2,8 @@ pub mod Fed
 pub mod Backward
 pub mod Plain
 pub mod Ids
+pub mod Held
+pub mod Turns
+pub mod Follows
+pub mod Open
+pub mod Parts

@@ -7,9 +7,9 @@ ghost use Rattle.amq_state.specs.Backward.{values};
 ghost use Rattle.amq_state.specs.Plain.{numbered, opened};
 
 use crate::changes::{entries_of, removals_of};
-use crate::live::live_entries;
 use crate::numbers::each_once;
 use crate::parts::{changes_transaction, ends_transaction};
+use crate::plain_live::live_entries;
 use amq_model::{Bytes, InDoubt, Items, LoadState, NoMemory, Placed, Record};
 use std::alloc::Global;
 

@@ -1,15 +1,27 @@
-//! What a list of records means: the live records and the transactions in doubt.
+//! What a list of records means: the live records, the transactions in doubt and the open ones.
 //!
-//! A `Loading` is fed the records of one file after the other, and tells the result of all that it was
-//! fed. `law` has the plain program for the same result.
+//! A `Loading` is fed the records of one file after the other, and keeps them. A call goes over them
+//! once: `tables` has the order of effect and the open transactions (`turn`), from which `live`,
+//! `doubts` and `open` take what is asked. `finish` moves the records into its tables, the other calls
+//! borrow them. `law` has the plain program for the same result, with `changes`, `parts` and
+//! `plain_live`.
 #![tactic(auto)]
 
 mod changes;
+mod doubts;
 mod law;
 mod live;
 mod loading;
 mod numbers;
+mod open;
+mod owned;
 mod parts;
+mod plain_live;
+mod tables;
+mod turn;
 
 pub use law::plain_result;
 pub use loading::Loading;
+
+#[cfg(test)]
+mod tests;

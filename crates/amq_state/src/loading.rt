@@ -1,12 +1,16 @@
 ghost use Rattle.std.specs.Prelude.{◌≡◌, ◌++◌, [], map, take, vec_len, IfOk, OnOk, OnErr};
 ghost use Rattle.amq_model.specs.Effect.{result_of};
 ghost use Rattle.amq_state.specs.Ids.{live_numbers};
+ghost use Rattle.amq_state.specs.Open.{open_txs, highest_of};
 ghost use Rattle.amq_state.specs.Fed.{placed_of, AreBelow};
 
-use crate::law::{plain_effect, plain_result};
-use crate::live::live_entries;
+use crate::doubts::doubts_from;
+use crate::live::live_records;
 use crate::numbers::{each_once, ids_of};
-use amq_model::{LoadState, NoMemory, Placed};
+use crate::open::{highest_number, open_from};
+use crate::owned::parts_of;
+use crate::tables::{Tables, tables_from, tables_of};
+use amq_model::{Items, LoadState, NoMemory, OpenTx, Placed};
 use amq_record::Spot;
 use std::alloc::Global;
 use std::marker::Model;
@@ -59,16 +63,39 @@ impl Loading {
     pub fn live_ids(&self) -> Result<Vec<u64>, NoMemory>
         ensures { IfOk result (λ v. v.items ≡ live_numbers self.now) }
     {
-        let effect = plain_effect(self.alloc, &self.list)?;
-        let live = live_entries(self.alloc, &effect)?;
+        let Tables { effect, .. } = tables_of(self.alloc, &self.list)?;
+        let live = live_records(self.alloc, effect)?;
         each_once(self.alloc, &ids_of(self.alloc, &live)?)
+    }
+
+    /// The open transactions, by number: those with an add, update, delete or PREPARE that has no end
+    /// behind it.
+    pub fn open_txs(&self) -> Result<Vec<OpenTx>, NoMemory>
+        ensures { IfOk result (λ v. v.items ≡ open_txs self.now) }
+    {
+        let Tables { turns, .. } = tables_of(self.alloc, &self.list)?;
+        open_from(self.alloc, &turns)
+    }
+
+    /// The highest transaction number of a record, 0 where there is none. Takes no memory.
+    pub fn highest_tx(&self) -> u64
+        ensures { result ≡ highest_of self.now }
+    {
+        highest_number(&self.list)
     }
 
     /// The live records and the transactions in doubt of all that was fed.
     pub fn finish(self) -> Result<LoadState, NoMemory>
         ensures { IfOk result (λ s. s ≡ result_of self) }
     {
-        plain_result(self.alloc, &self.list)
+        let Loading { alloc, list } = self;
+        let Tables { effect, turns } = tables_from(alloc, list)?;
+        let (live, _) = parts_of(alloc, live_records(alloc, effect)?)?;
+        let in_doubt = doubts_from(alloc, turns)?;
+        Ok(LoadState {
+            live: Items::of(live),
+            in_doubt: Items::of(in_doubt),
+        })
     }
 }
 

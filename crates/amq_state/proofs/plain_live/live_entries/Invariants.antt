@@ -5,7 +5,7 @@ use Rattle.std.specs.Ordering.{nat_cmp}
 use Rattle.std.specs.BTreeSet.{contains}
 use Rattle.amq_model.specs.Effect.{deletes, remaining}
 use Rattle.amq_state.specs.Backward.{values}
-use Rattle.amq_state.proofs.live.live_entries.Given as goal
+use Rattle.amq_state.proofs.plain_live.live_entries.Given as goal
 
 abbrev pub invariant-loop-i : goal.invariant-loop-i
 invariant-loop-i l = record {

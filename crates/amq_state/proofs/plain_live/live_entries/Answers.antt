@@ -9,7 +9,7 @@ use Rattle.std.proofs.Math.ListN.{drop_of_length-le}
 use Rattle.amq_model.specs.Effect.{deletes, remaining}
 use Rattle.amq_state.proofs.Backward.{from_place, one_more}
 use Rattle.amq_state.specs.Backward.{values}
-use Rattle.amq_state.proofs.live.live_entries.Goals as goal
+use Rattle.amq_state.proofs.plain_live.live_entries.Goals as goal
 
 pub loop-i-init : goal.loop-i-init
 loop-i-init c =
