@@ -211,7 +211,8 @@ fn records_of_several_files(rt: HostRuntime) -> Result<(), Fail> {
     let out = record_lines(alloc, &files, base.as_slice(), 6)?;
     assert_eq!(rt; out.as_slice(), expected.as_bytes());
     // The same records with the first file's behind the others.
-    base.rotate_left(3);
+    let of_first = base.len().min(3);
+    base.rotate_left(of_first);
     let out = record_lines(alloc, &files, base.as_slice(), 6)?;
     assert_eq!(rt; out.as_slice(), expected.as_bytes());
     let files = [file(alloc, "activemq-data-7.amq", 7, 2)?];
