@@ -1,5 +1,4 @@
-ghost use Rattle.std.specs.Prelude.{◌≡◌, IfOk, if◌then◌else◌};
-ghost use Rattle.amq_model.specs.RecordAt.{kind_of};
+ghost use Rattle.std.specs.Prelude.{◌≡◌, replicate, IfOk, if◌then◌else◌};
 
 use crate::loads::load_file;
 use crate::numbers::Numbers;
@@ -32,17 +31,17 @@ fn plain_file(alloc: Global, records: usize) -> Result<RecordFile, NoMemory> {
     };
     for _ in 0..records {
         let number = numbers.draw() % ids;
-        file.put(&changed(alloc, number as u64, live[number])?)?;
+        let id = (number as u64).wrapping_mul(ID_STEP);
+        file.put(&changed(alloc, id, live[number])?)?;
         live[number] = !live[number];
     }
     Ok(file)
 }
 
-/// The record that adds the id of this number, or deletes it where it is live.
-fn changed(alloc: Global, number: u64, live: bool) -> Result<Record, NoMemory>
-    ensures { IfOk result (λ r. kind_of r ≡ (if live then 16 else 11)) }
+/// The record that adds the id, or deletes it where it is live.
+fn changed(alloc: Global, id: u64, live: bool) -> Result<Record, NoMemory>
+    ensures { IfOk result (λ r. r ≡ (if live then Record.Delete id else Record.Add id 31 (replicate BODY_LEN 7))) }
 {
-    let id = number.wrapping_mul(ID_STEP);
     if live {
         return Ok(Record::Delete { id });
     }

@@ -1,4 +1,4 @@
-ghost use Rattle.std.specs.Prelude.{◌≡◌, length, IfOk};
+ghost use Rattle.std.specs.Prelude.{◌≡◌, ◌%◌, length, replicate, IfOk};
 
 use crate::outcome::{Outcome, Shortest};
 use amq_model::{Bytes, Entry, EntryKind, Items, LoadState, NoMemory};
@@ -47,7 +47,7 @@ fn state(alloc: Global, count: usize) -> Result<LoadState, NoMemory>
 }
 
 fn entry(alloc: Global, id: u64) -> Result<Entry, NoMemory>
-    ensures { IfOk result (λ e. length e.body ≡ BODY_LEN) }
+    ensures { IfOk result (λ e. e ≡ record { kind = EntryKind.Add; id = id; user_type = 31; body = replicate BODY_LEN (id % 256) }) }
 {
     let fill = (id % 256) as u8;
     match vec![in alloc; fill; BODY_LEN] {

@@ -17,15 +17,13 @@ const LENGTH_LIMIT: u64 = 0x8000_0000;
 #[derive(Drop)]
 pub struct RecordFile {
     pub bytes: Vec<u8>,
-    /// How many records it has.
-    pub records: usize,
 }
 
 impl RecordFile {
     pub fn new(alloc: Global) -> Result<RecordFile, NoMemory> {
         let header = [0, 0, 0, 2, 0, 0, 0, 0, 0, 0, 0, 0, 0, 0, 0, 1];
         match Vec::from_slice(alloc, &header) {
-            Ok(bytes) => Ok(RecordFile { bytes, records: 0 }),
+            Ok(bytes) => Ok(RecordFile { bytes }),
             Err(_) => Err(NoMemory),
         }
     }
@@ -35,9 +33,7 @@ impl RecordFile {
         ensures ok { OnOk result (self.new.bytes.items ≡ self.old.bytes.items ++ spelling 2 1 0 rec.now) }
         ensures err { OnErr result (self.new.bytes.items ≡ self.old.bytes.items) }
     {
-        encode_behind(&mut self.bytes, rec)?;
-        self.records = self.records.saturating_add(1);
-        Ok(())
+        encode_behind(&mut self.bytes, rec)
     }
 }
 

@@ -1,4 +1,4 @@
-ghost use Rattle.std.specs.Prelude.{◌≡◌, IfOk};
+ghost use Rattle.std.specs.Prelude.{◌≡◌, ◌%◌, replicate, IfOk};
 ghost use Rattle.amq_model.specs.RecordAt.{len_of};
 
 use crate::outcome::Outcome;
@@ -26,7 +26,8 @@ pub fn scan_records<R: AllocGlobal + Clock>(rt: &R, size: usize, repeats: u32) -
 
 /// An ADD.
 pub fn record(alloc: Global, id: u64) -> Result<Record, NoMemory>
-    ensures { IfOk result (λ r. len_of r ≡ RECORD_LEN) }
+    ensures value { IfOk result (λ r. r ≡ Record.Add id 31 (replicate BODY_LEN (id % 256))) }
+    ensures len { IfOk result (λ r. len_of r ≡ RECORD_LEN) }
 {
     let fill = (id % 256) as u8;
     match vec![in alloc; fill; BODY_LEN] {
