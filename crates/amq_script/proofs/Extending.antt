@@ -1,7 +1,7 @@
 -- What a list has behind `extend`.
 use Rattle.std.proofs.Common.{◌≡◌, ℕ, List, map, Ok}
-use Rattle.std.specs.Prelude.{Option, MatchResult, Result}
-use Rattle.std.specs.Iterator.{Yields, Drains}
+use Rattle.std.specs.Prelude.{Option}
+use Rattle.std.specs.Iterator.{Drains}
 use Rattle.std.proofs.lemmas.Iterator.{YieldsList}
 use Rattle.std.proofs.lemmas.Iterator.Adapters.{fact_from_extend}
 use Rattle.std.proofs.lemmas.Iterator.Consumers.{YieldsList-at}
