@@ -2,6 +2,7 @@ pub mod Preparing
 pub mod Putting
 pub mod Texts
 pub mod Steps
+pub mod ReceiptExamples
 pub mod Receipts
 pub mod History
 pub mod Sound

@@ -10,7 +10,7 @@ use Rattle.amq_model.specs.Calls.{Part, Event, Past, listing, creating, writing,
 use Rattle.amq_model.specs.Crash.{ReadsSince, MayLeave}
 use Rattle.amq_model.proofs.Literals.{are_bytes, unequal}
 
-abbrev a : FileName
+abbrev pub a : FileName
 a = 97 ∷ []
 
 abbrev b : FileName
@@ -19,33 +19,33 @@ b = 98 ∷ []
 abbrev is : FileName → FileName → Bool
 is q n = eq_by_cmp (slice_cmp nat_cmp) q n
 
-abbrev file : List ℕ → List Range → File
+abbrev pub file : List ℕ → List Range → File
 file bytes pending = record { bytes = bytes; pending = pending }
 
 -- a directory of one file, and one of none
-abbrev nothing : {X : Type 0} → map.FinMap (slice_cmp nat_cmp) X
+abbrev pub nothing : {X : Type 0} → map.FinMap (slice_cmp nat_cmp) X
 nothing = map.empty
 
-abbrev one : {X : Type 0} → FileName → X → map.FinMap (slice_cmp nat_cmp) X
+abbrev pub one : {X : Type 0} → FileName → X → map.FinMap (slice_cmp nat_cmp) X
 one n x = map.insert map.empty n x
 
 -- that file is there, and no other
-abbrev HasOne : {X : Type 0} → map.FinMap (slice_cmp nat_cmp) X → FileName → X → Type 0
+abbrev pub HasOne : {X : Type 0} → map.FinMap (slice_cmp nat_cmp) X → FileName → X → Type 0
 HasOne m n x = (q : FileName) → map.get m q ≡ cond (is q n) (Some x) None
 
 inserted : {X : Type 0} (m : map.FinMap (slice_cmp nat_cmp) X) (n : FileName) (x : X) (q : FileName) → map.get (map.insert m n x) q ≡ cond (is q n) (Some x) (map.get m q)
 inserted m n x q = map.get-insert nat_list_cmp_total m n x q
 
-has_one : {X : Type 0} (n : FileName) (x : X) → HasOne (one n x) n x
+pub has_one : {X : Type 0} (n : FileName) (x : X) → HasOne (one n x) n x
 has_one n x q = inserted map.empty n x q ∙ ap (λ o. cond (is q n) (Some x) o) (map.get-empty (slice_cmp nat_cmp) q)
 
-is_image : (s : Files) (n : FileName) (f : File) (bytes : List ℕ) → HasOne s n f → IsTorn f.pending f.bytes bytes → IsImage s (one n bytes)
+pub is_image : (s : Files) (n : FileName) (f : File) (bytes : List ℕ) → HasOne s n f → IsTorn f.pending f.bytes bytes → IsImage s (one n bytes)
 is_image s n f bytes has torn q = subst₂ IsFileImage (sym (has q)) (sym (has_one n bytes q)) (by (is q n)) where
   by : (x : Bool) → IsFileImage (cond x (Some f) None) (cond x (Some bytes) None)
   by true = torn
   by false = tt
 
-is_reading : (s : Files) (n : FileName) (f : File) → HasOne s n f → IsReading s (one n f.bytes)
+pub is_reading : (s : Files) (n : FileName) (f : File) → HasOne s n f → IsReading s (one n f.bytes)
 is_reading s n f has q = has_one n f.bytes q ∙ by (is q n) ∙ ap (option_map (λ f. f.bytes)) (sym (has q)) where
   by : (x : Bool) → cond x (Some f.bytes) None ≡ option_map (λ f. f.bytes) (cond x (Some f) None)
   by true = refl
@@ -61,7 +61,7 @@ none_there : (q : FileName) → map.get (nothing {X = File}) q ≡ None
 none_there q = map.get-empty (slice_cmp nat_cmp) q
 
 -- what an image has of a file by what the directory has
-at_name : (s : Files) (image : Image) (n : FileName) (x : Option File) (y : Option (List ℕ)) → map.get s n ≡ x → map.get image n ≡ y → IsImage s image → IsFileImage x y
+pub at_name : (s : Files) (image : Image) (n : FileName) (x : Option File) (y : Option (List ℕ)) → map.get s n ≡ x → map.get image n ≡ y → IsImage s image → IsFileImage x y
 at_name s image n x y e g h = subst₂ IsFileImage e g (h n)
 
 -- all of the file is pending
@@ -130,7 +130,7 @@ start = one a (file (1 ∷ []) [])
 abbrev renames : Past
 renames = record { start = start; calls = record { call = renaming a b; outcome = broken undone; before = 0 } ∷ []; moment = 1 }
 
-durable : (bytes : List ℕ) → ((i : ℕ) → slice_index bytes i < 256) → IsTorn [] bytes bytes
+pub durable : (bytes : List ℕ) → ((i : ℕ) → slice_index bytes i < 256) → IsTorn [] bytes bytes
 durable bytes h = record { len = refl; same = λ i below kept. refl; bytes = h }
 
 renamed_one : HasOne (renamed a b start) b (file (1 ∷ []) [])
@@ -169,7 +169,7 @@ under_neither reading image no_a no_b (s, since, read, left) = by since where
 
 -- ---- a write that failed
 
-abbrev two : Files
+abbrev pub two : Files
 two = one a (file (1 ∷ 2 ∷ []) [])
 
 changed_one : (s : Files) (n : FileName) (f : File) (g : File → File) → map.get s n ≡ Some f → HasOne s n f → HasOne (changed n g s) n (g f)
@@ -178,20 +178,20 @@ changed_one s n f g here has q = ap (λ found. map.get (put_where found g s n) q
   by true = refl
   by false = refl
 
-abbrev write : Event
+abbrev pub write : Event
 write = record { call = writing a 0 (7 ∷ []); outcome = broken undone; before = 0 }
 
 abbrev sync : Event
 sync = record { call = syncing a; outcome = fine; before = 1 }
 
-abbrev failed_write : Past
+abbrev pub failed_write : Past
 failed_write = record { start = two; calls = write ∷ []; moment = 1 }
 
 abbrev settled_write : Past
 settled_write = record { start = two; calls = sync ∷ write ∷ []; moment = 2 }
 
 -- the range of the write
-only_the_first : (x : ℕ) → x < 256 → IsTorn ((0, 1) ∷ []) (1 ∷ 2 ∷ []) (x ∷ 2 ∷ [])
+pub only_the_first : (x : ℕ) → x < 256 → IsTorn ((0, 1) ∷ []) (1 ∷ 2 ∷ []) (x ∷ 2 ∷ [])
 only_the_first x low = record { len = refl; same = same; bytes = bytes } where
   same : (i : ℕ) → i < 2 → (IsPending ((0, 1) ∷ []) i → ⊥) → slice_index (x ∷ 2 ∷ []) i ≡ slice_index (1 ∷ 2 ∷ []) i
   same zero below kept = absurd (kept (inl (omega arith, omega arith)))
@@ -201,7 +201,7 @@ only_the_first x low = record { len = refl; same = same; bytes = bytes } where
   bytes zero = low
   bytes (suc i) = are_bytes (2 ∷ []) tt i
 
-not_written : HasOne (pended a 0 1 two) a (file (1 ∷ 2 ∷ []) ((0, 1) ∷ []))
+pub not_written : HasOne (pended a 0 1 two) a (file (1 ∷ 2 ∷ []) ((0, 1) ∷ []))
 not_written = changed_one two a _ _ (has_one a _ a) (has_one a _)
 
 written_there : HasOne (written a 0 (7 ∷ []) two) a (file (7 ∷ 2 ∷ []) ((0, 1) ∷ []))

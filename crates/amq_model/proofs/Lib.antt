@@ -9,6 +9,7 @@ pub mod Effects
 pub mod Fewer
 pub mod GeneratorExamples
 pub mod Grows
+pub mod HeadlineExamples
 pub mod Keeping
 pub mod KeptExamples
 pub mod Literals

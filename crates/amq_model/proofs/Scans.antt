@@ -12,26 +12,26 @@ use Rattle.amq_model.specs.Scan.{IsScan}
 use Rattle.amq_model.specs.Directory.{Listing, SaysControl, Loads, HasFault, fault}
 use Rattle.amq_model.proofs.Literals.{are_bytes, unequal, read_at, at_least, none_behind, none_within, none_from}
 
-abbrev header : ℕ → ℕ → List ℕ
+abbrev pub header : ℕ → ℕ → List ℕ
 header version id = 0 ∷ 0 ∷ 0 ∷ version ∷ 0 ∷ 0 ∷ 0 ∷ 0 ∷ 0 ∷ 0 ∷ 0 ∷ 0 ∷ 0 ∷ 0 ∷ 0 ∷ id ∷ []
 
 -- an ADD of id 1 in file 1 with this check size
-abbrev record_of_1 : ℕ → List ℕ
+abbrev pub record_of_1 : ℕ → List ℕ
 record_of_1 size = 0x0b ∷ 0 ∷ 0 ∷ 0 ∷ 1 ∷ 0 ∷ 0 ∷ 0 ∷ 0 ∷ 0 ∷ 0 ∷ 0 ∷ 0 ∷ 1 ∷ 0 ∷ 0 ∷ 0 ∷ 2 ∷ 7 ∷ 0x68 ∷ 0x69 ∷ 0 ∷ 0 ∷ 0 ∷ size ∷ []
 
 -- it in a file of id 1, and one of id 2 behind it
-abbrev adds : ℕ → List ℕ
+abbrev pub adds : ℕ → List ℕ
 adds size = header 2 1 ++ record_of_1 size
     ++ 0x0b ∷ 0 ∷ 0 ∷ 0 ∷ 1 ∷ 0 ∷ 0 ∷ 0 ∷ 0 ∷ 0 ∷ 0 ∷ 0 ∷ 0 ∷ 2 ∷ 0 ∷ 0 ∷ 0 ∷ 2 ∷ 7 ∷ 0x79 ∷ 0x6f ∷ 0 ∷ 0 ∷ 0 ∷ 0x19 ∷ []
 
 -- the first one's check size is one too low
-abbrev broken : List ℕ
+abbrev pub broken : List ℕ
 broken = adds 0x18
 
-abbrev second : Spot
+abbrev pub second : Spot
 second = record { place = 41; len = 25; compact = 0; rec = Add 2 7 (0x79 ∷ 0x6f ∷ []) }
 
-second_stands : RecordAt broken 1 2 second
+pub second_stands : RecordAt broken 1 2 second
 unfolding long word
 second_stands = record {
   values = (omega arith, omega arith, record { short = omega arith; bytes = are_bytes (0x79 ∷ 0x6f ∷ []) tt });
@@ -64,7 +64,7 @@ none_at_16 len compact (Prepare tx count extra) found = let size = found.len in 
 none_at_16 len compact (Commit tx count) found = let size = found.len in unequal 11 18 tt (another_kind _ refl (omega arith) found)
 none_at_16 len compact (Rollback tx) found = let size = found.len in unequal 11 19 tt (another_kind _ refl (omega arith) found)
 
-none_before : (p : ℕ) → 16 ≤ p → p < 41 → NoneAt broken 1 2 p
+pub none_before : (p : ℕ) → 16 ≤ p → p < 41 → NoneAt broken 1 2 p
 none_before p low high s is found = ⊎_elim
     (λ e. none_at_16 s.len s.compact s.rec (subst (λ i. RecordAt broken 1 2 (record { place = i; len = s.len; compact = s.compact; rec = s.rec })) (is ∙ sym e) found))
     (λ e. none_within broken 1 17 24 tt p e (omega arith) s is found)
