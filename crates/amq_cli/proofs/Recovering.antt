@@ -1,12 +1,11 @@
 -- The headline, carried to the end of a run.
-use Rattle.std.proofs.Common.{◌≡◌, ◌⊎◌, inl, inr, ℕ, ◌-◌, ◌^◌, ◌<◌, ◌≤◌, List, [], ◌∷◌, length, Option, None, Some, Ok, refl, sym, ap, subst, ◌∙◌, arith}
-use Rattle.std.specs.Prelude.{All, Result}
+use Rattle.std.proofs.Common.{◌≡◌, ◌⊎◌, inl, inr, ℕ, ◌-◌, ◌^◌, ◌<◌, ◌≤◌, List, [], ◌∷◌, Option, Ok, refl, sym, ap, subst, ◌∙◌, arith}
+use Rattle.std.specs.Prelude.{Result}
 use Rattle.amq_model.specs.declared.record.Placed.{Placed}
 use Rattle.amq_model.specs.declared.refusal.Refusal.{Refusal}
 use Rattle.amq_model.specs.Answers.{history_of}
-use Rattle.amq_model.specs.Calls.{Past}
+use Rattle.amq_model.specs.Calls.{Past, counted}
 use Rattle.amq_model.specs.Crash.{NoFalseRecord}
-use Rattle.amq_model.specs.Files.{Files}
 use Rattle.amq_model.specs.Headline.{LoadsKept, RecoversSince}
 use Rattle.amq_model.specs.Leaves.{Leaves, Unchanged, LeavesNothingNew, Told}
 use Rattle.amq_model.proofs.Moments.{still}
@@ -15,8 +14,9 @@ use Rattle.amq_scan.proofs.Parts.{all_by, all_has}
 use Rattle.amq_engine.specs.declared.chronicle.Receipted.{Receipted}
 use Rattle.amq_engine.specs.Lists.{Lists}
 use Rattle.amq_engine.specs.OneFile.{IsEmpty}
-use Rattle.amq_engine.specs.Receipts.{AreInOrder, IsLastCount, IsCrashSafe}
-use Rattle.amq_engine.specs.Engine.{durable_after}
+use Rattle.amq_engine.specs.Receipts.{IsLastCount, IsCrashSafe}
+use Rattle.amq_engine.specs.Engine.{durable_after, HasCome}
+use Rattle.amq_model.specs.declared.config.Config.{Config}
 use Rattle.amq_engine.proofs.Recovering.{order_later}
 use Rattle.amq_cli.specs.Offline.{HasBase}
 use Rattle.amq_cli.proofs.Reloading.{began}
@@ -27,12 +27,13 @@ safe_still a b moment later wanted l asks on safe = record {
   recovers = all_by (λ (r : Receipted). r.moment < 2 ^ 64 - 1 → RecoversSince b r.moment wanted l.base (history_of l.steps) r.durable) l.receipts (λ r has early.
       left_still (λ reading image. NoFalseRecord reading image → LoadsKept l.base (history_of l.steps) r.durable wanted image) r.moment a b
       (all_has (λ (r : Receipted). r.moment < 2 ^ 64 - 1 → RecoversSince a r.moment wanted l.base (history_of l.steps) r.durable) l.receipts safe.recovers r has early) asks);
+  counted = safe.counted;
   receipts = order_later moment later l.receipts on safe.receipts;
 }
 
 -- where nothing was opened
 pub unopened_safe : (past : Option Past) (moment wanted : ℕ) → IsCrashSafe past moment wanted (record { base = []; steps = []; receipts = [] })
-unopened_safe past moment wanted = record { recovers = λ k x lt. absurd (omega (arith, lt)); receipts = tt }
+unopened_safe past moment wanted = record { recovers = λ k x lt. absurd (omega (arith, lt)); counted = λ k x lt. absurd (omega (arith, lt)); receipts = tt }
 
 -- no call was made
 pub same_nothing_new : (past : Option Past) → LeavesNothingNew past past
@@ -50,3 +51,8 @@ last_of_all result count appended durable n rs is all long last = subst (λ (c :
 pub opened_so : (rs : List Receipted) (base : List Placed) (past : Option Past) → base ≡ [] → (rs ≡ []) ⊎ Told past IsEmpty → (rs ≡ []) ⊎ Told past (HasBase base)
 opened_so rs base past none (inl empty) = inl empty
 opened_so rs base past none (inr told) = inr (began base past none told)
+
+-- an opening without a receipt only asked what was there
+pub come_nothing_new : (config : Config) (moment : ℕ) (old new : Option Past) (l : Lists) → HasCome config moment old new l → l.receipts ≡ [] → LeavesNothingNew old new
+come_nothing_new config moment old new l (inl asked) none = nothing_new old new asked.1
+come_nothing_new config moment old new l (inr begun) none = absurd (let e : record { durable = 0; moment = counted moment } ∷ [] ≡ [] = sym begun.0.receipts ∙ none in cc)

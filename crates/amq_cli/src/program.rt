@@ -34,7 +34,7 @@ pub fn offline<D: Disk, S: Source, K: Sink>(
     ensures run { result.0 ≡ Status.Ok → IsRun (S.left source.old) (S.left source.new) (D.past disk) (D.past result.1) (K.taken sink.old) (K.taken sink.new) result.2.base result.2.steps.items }
     ensures cause { HasCause result.0 (S.left source.old) (D.past disk) (D.past result.1) (S.faults source.old) (S.faults source.new) (K.faults sink.old) (K.faults sink.new) (D.faults disk) (D.faults result.1) }
     ensures script { is_past_script result.0 ≡ true → IsScript (S.left source.old) (S.left source.new) }
-    ensures unopened { is_before_opening result.0 ≡ true → result.1 ≡ disk }
+    ensures unopened { is_before_opening result.0 ≡ true → (result.1 ≡ disk) × (result.2.steps.items ≡ []) × (result.2.receipts.items ≡ []) }
     ensures unwritten { is_unwritten result.0 ≡ true → sink.new ≡ sink.old }
     ensures base { result.2.base ≡ [] }
     ensures legal { AreLegal result.2.base result.2.steps.items defaults }

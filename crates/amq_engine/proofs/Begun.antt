@@ -9,7 +9,7 @@ use Rattle.std.specs.Cmp.Lexicographic.{slice_cmp}
 use Rattle.amq_model.proofs.Lookups.{same_true, same_self}
 use Rattle.std.proofs.lemmas.Bool.{false≢true}
 use Rattle.amq_model.specs.Files.{FileName, Files, File, overlaid}
-use Rattle.amq_model.specs.Calls.{Past, content, listing, fine, noted}
+use Rattle.amq_model.specs.Calls.{Past, content, listing, fine, noted, counted}
 use Rattle.amq_model.specs.Leaves.{Told}
 use Rattle.amq_io.specs.Listed.{IsListed}
 use Rattle.amq_model.specs.Leaves.{AllReads, HoldsSince, IsAt}
@@ -25,7 +25,7 @@ use Rattle.amq_model.specs.Legal.{AreLegal}
 use Rattle.amq_engine.specs.declared.chronicle.Receipted.{Receipted}
 use Rattle.amq_engine.specs.Lists.{Lists, with_base, with_receipt}
 use Rattle.amq_engine.specs.OneFile.{Holds, IsEmpty, header_of}
-use Rattle.amq_engine.specs.Engine.{data_name, temporary_name, MayHold, AreKept, IsTold, IsBegun, IsBlank}
+use Rattle.amq_engine.specs.Engine.{data_name, temporary_name, MayHold, AreKept, IsTold, IsBegun, IsBlank, AreBegun, HasCome}
 use Rattle.amq_engine.proofs.Sound.{Holding, header_long}
 use Rattle.amq_engine.proofs.Putting.{length-overlaid}
 use Rattle.amq_engine.proofs.Receipts.{if_some}
@@ -33,8 +33,6 @@ use Rattle.amq_engine.proofs.Recovering.{told_safe, last_more}
 use Rattle.amq_engine.specs.Receipts.{AreInOrder, IsLastCount, IsCrashSafe}
 use Rattle.amq_model.specs.Configs.{IsConfig}
 use Rattle.amq_model.specs.Headline.{RecoversSince}
-use Rattle.amq_model.specs.Leaves.{LeavesNothingNew}
-use Rattle.amq_model.proofs.Recovering.{nothing_new}
 use Rattle.amq_io.proofs.Called.{listing_only_asks}
 use Rattle.amq_io.specs.Notes.{Notes}
 use Rattle.amq_io.specs.declared.disk.DiskError.{DiskError}
@@ -164,19 +162,12 @@ module _ (config : Config) (room : 16 ≤ config.file_size) (infos : List FileIn
     begun_safe m later ranges at on lists lists' blank is = subst (λ (l : Option Lists). IfSome l (IsCrashSafe d later config.user_version)) (sym is) (by lists blank) where
       by : (o : Option Lists) → IfSome o IsBlank → IfSome (option_map (with_receipt 0 m) (option_map (with_base []) o)) (IsCrashSafe d later config.user_version)
       by None blank = tt
-      by (Some l) blank = told_safe d later config 0 [] (first_lists m l) ranges (λ k x lt. absurd (omega (arith, lt))) (told_begun m at l blank) (order_begun m later on l blank)
-
-    -- it has a receipt
-    pub begun_some : (m : ℕ) (Q : Type 0) (lists lists' : Option Lists) → IfSome lists IsBlank → lists' ≡ option_map (with_receipt 0 m) (option_map (with_base []) lists) → IfSome lists' (λ l. l.receipts ≡ [] → Q)
-    begun_some m Q lists lists' blank is = subst (λ (l : Option Lists). IfSome l (λ l. l.receipts ≡ [] → Q)) (sym is) (by lists blank) where
-      by : (o : Option Lists) → IfSome o IsBlank → IfSome (option_map (with_receipt 0 m) (option_map (with_base []) o)) (λ l. l.receipts ≡ [] → Q)
-      by None blank = tt
-      by (Some l) blank = λ empty. absurd (let e : record { durable = 0; moment = m } ∷ [] ≡ [] = sym (ap (λ (rs : List Receipted). rs ++ record { durable = 0; moment = m } ∷ []) blank.2) ∙ empty in cc)
+      by (Some l) blank = told_safe d later config 0 [] (first_lists m l) ranges (λ k x lt. absurd (omega (arith, lt))) (omega arith) (told_begun m at l blank) (order_begun m later on l blank)
 
   pub begun_is : Leaves P E b d → (m later : ℕ) → IfSome b (IsAt m) → m ≤ later → (lists lists' : Option Lists) (receipts : ℕ) → IfSome lists IsBlank → lists' ≡ option_map (with_receipt 0 m) (option_map (with_base []) lists) → 1 ≤ receipts → IsBegun d later lists' receipts config
   begun_is went m later at on lists lists' receipts blank is more = record {
     order = subst (λ (l : Option Lists). IfSome l (λ l. AreInOrder later l.receipts)) (sym is) (ordered lists blank);
-    last = subst (λ (l : Option Lists). IfSome l (λ l. IsLastCount 0 l.receipts)) (sym is) (counted lists blank);
+    last = subst (λ (l : Option Lists). IfSome l (λ l. IsLastCount 0 l.receipts)) (sym is) (last_count lists blank);
     reads_now = reads_begun went;
     room = more;
     told = subst (λ (l : Option Lists). IfSome l (IsTold d config 0 [])) (sym is) (by lists blank);
@@ -189,14 +180,15 @@ module _ (config : Config) (room : 16 ≤ config.file_size) (infos : List FileIn
     ordered None blank = tt
     ordered (Some l) blank = order_begun E went m later on l blank
 
-    counted : (o : Option Lists) → IfSome o IsBlank → IfSome (option_map (with_receipt 0 m) (option_map (with_base []) o)) (λ l. IsLastCount 0 l.receipts)
-    counted None blank = tt
-    counted (Some l) blank = last_more 0 m l.receipts
+    last_count : (o : Option Lists) → IfSome o IsBlank → IfSome (option_map (with_receipt 0 m) (option_map (with_base []) o)) (λ l. IsLastCount 0 l.receipts)
+    last_count None blank = tt
+    last_count (Some l) blank = last_more 0 m l.receipts
 
 -- a chronicle without receipts is crash safe
 blank_is_safe : (past : Option Past) (moment wanted : ℕ) (l : Lists) → l.receipts ≡ [] → IsCrashSafe past moment wanted l
 blank_is_safe past moment wanted l none = record {
   recovers = subst (λ (rs : List Receipted). All (λ r. r.moment < 2 ^ 64 - 1 → RecoversSince past r.moment wanted l.base (history_of l.steps) r.durable) rs) (sym none) (λ k x lt. absurd (omega (arith, lt)));
+  counted = subst (λ (rs : List Receipted). All (λ r. r.durable ≤ length (history_of l.steps)) rs) (sym none) (λ k x lt. absurd (omega (arith, lt)));
   receipts = subst (AreInOrder moment) (sym none) tt;
 }
 
@@ -204,9 +196,23 @@ pub blank_safe : (past : Option Past) (moment wanted : ℕ) (lists lists' : Opti
 blank_safe past moment wanted lists lists' is blank = subst (λ (l : Option Lists). IfSome l (IsCrashSafe past moment wanted)) (sym is) (if_some IsBlank (IsCrashSafe past moment wanted) lists (λ l b. blank_is_safe past moment wanted l b.2) blank)
 
 -- what only a list was asked of
-pub listed_nothing_new : {T : Type 0} (result : Result T DiskError) (lists : Option Lists) (a b : Option Past) → Notes listing result a b → IfSome lists (λ l. l.receipts ≡ [] → LeavesNothingNew a b)
-listed_nothing_new result None a b notes = tt
-listed_nothing_new result (Some l) a b notes = λ none. nothing_new a b (listing_only_asks result a b notes)
+pub listed_only : {T : Type 0} (config : Config) (moment : ℕ) (result : Result T DiskError) (lists lists' : Option Lists) (a b : Option Past) → lists' ≡ lists → IfSome lists IsBlank → Notes listing result a b → IfSome lists' (HasCome config moment a b)
+listed_only config moment result lists lists' a b is blank notes = subst (λ (l : Option Lists). IfSome l (HasCome config moment a b)) (sym is) (if_some IsBlank (HasCome config moment a b) lists (λ l blank. inl (blank.2, listing_only_asks result a b notes)) blank)
+
+-- a chronicle that was blank, behind the base and the first receipt
+pub begun_lists : (moment : ℕ) (lists lists' : Option Lists) → IfSome lists IsBlank → lists' ≡ option_map (with_receipt 0 moment) (option_map (with_base []) lists) → IfSome lists' (AreBegun moment)
+begun_lists moment lists lists' blank is = subst (λ (l : Option Lists). IfSome l (AreBegun moment)) (sym is) (by lists blank) where
+  by : (o : Option Lists) → IfSome o IsBlank → IfSome (option_map (with_receipt 0 moment) (option_map (with_base []) o)) (AreBegun moment)
+  by None blank = tt
+  by (Some l) blank = record { base = refl; steps = blank.1; receipts = ap (λ (rs : List Receipted). rs ++ record { durable = 0; moment = moment } ∷ []) blank.2 }
+
+-- where the file was prepared at once behind the list, or that was tried
+pub prepared_only : (config : Config) (moment m : ℕ) (lists lists' : Option Lists) (a b d : Option Past) → m ≡ counted moment → IfSome lists IsBlank → lists' ≡ option_map (with_receipt 0 m) (option_map (with_base []) lists) → b ≡ option_map (noted listing fine) a
+    → Leaves (Prepares temporary_name data_name config.file_size 74 (header_of config.user_version 1)) (Prepares temporary_name data_name config.file_size 74 (header_of config.user_version 1)) b d → IfSome lists' (HasCome config moment a d)
+prepared_only config moment m lists lists' a b d at blank is notes went =
+    if_some (AreBegun m) (HasCome config moment a d) lists'
+    (λ l begun. inr (subst (λ (n : ℕ). AreBegun n l) at begun, subst (λ (h : Option Past). Leaves (Prepares temporary_name data_name config.file_size 74 (header_of config.user_version 1)) (Prepares temporary_name data_name config.file_size 74 (header_of config.user_version 1)) h d) notes went))
+    (begun_lists m lists lists' blank is)
 
 -- a fact that doesn't depend on what is told
 pub some_if : (P : Lists → Type 0) (Q : Type 0) (lists : Option Lists) → Q → IfSome lists (λ l. P l ⊎ Q)

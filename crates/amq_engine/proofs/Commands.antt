@@ -1,6 +1,6 @@
 -- What is always so of an engine, through one command.
 use Rattle.std.proofs.Common.{◌≡◌, ◌⊎◌, inl, inr, ℕ, ◌+◌, ◌-◌, ◌<◌, ◌≤◌, Bool, true, false, cond, ltb, List, [], ◌∷◌, ◌++◌, length, take, drop, Option, None, Some, refl, sym, ap, subst, ◌∙◌, arith}
-use Rattle.std.specs.Prelude.{IfSome, IsSome, All, option_map, Result, Ok, Err, OnOk, is_err}
+use Rattle.std.specs.Prelude.{IfSome, IsSome, All, option_map, Result, Ok, Err, OnOk, OnErr, is_err}
 use Rattle.std.specs.BTreeSet.{BTreeSet, contains}
 use Rattle.std.specs.Ordering.{nat_cmp}
 use Rattle.std.proofs.lemmas.Bool.{ltb-false}
@@ -38,6 +38,11 @@ use Rattle.amq_engine.proofs.Sound.{Holding}
 pub when_ok : {T E : Type 0} (r : Result T E) (P : Type 0) → is_err r ≡ false → OnOk r P → P
 when_ok (Ok x) P is h = h
 when_ok (Err e) P is h = absurd cc
+
+-- a call that failed
+pub when_err : {T E : Type 0} (r : Result T E) (P : Type 0) → is_err r ≡ true → OnErr r P → P
+when_err (Ok x) P is h = absurd cc
+when_err (Err e) P is h = h
 
 -- an engine that isn't closed took what it was asked for only when all was durable
 pub open_durable : {P : Type 0} (closed : Option DiskCall) → closed ≡ None → P ⊎ IsSome closed → P

@@ -1,5 +1,5 @@
 -- What a crash leaves of the one file loads to a kept part of the history.
-use Rattle.std.proofs.Common.{◌≡◌, ◌⊎◌, inl, inr, ⊎_elim, ℕ, zero, suc, ◌+◌, ◌-◌, ◌<◌, ◌≤◌, ◌^◌, Bool, true, false, cond, leb, List, [], ◌∷◌, ◌++◌, length, take, drop, Option, None, Some, refl, sym, ap, subst, ◌∙◌, arith}
+use Rattle.std.proofs.Common.{◌≡◌, inl, inr, ℕ, ◌+◌, ◌-◌, ◌<◌, ◌≤◌, ◌^◌, Bool, true, false, leb, List, [], ◌∷◌, ◌++◌, length, take, drop, Option, None, Some, refl, sym, ap, subst, ◌∙◌, arith}
 use Rattle.std.specs.Prelude.{◌%◌, All, Contains, IfSome, map as map_of, option_map, IsTrue, slice_get}
 use Rattle.std.specs.BTreeSet.{BTreeSet}
 use Rattle.std.proofs.lemmas.Bool.{false≢true}
@@ -7,17 +7,16 @@ use Rattle.std.proofs.lemmas.Cmp.{nat_list_cmp_total}
 use Rattle.std.specs.FinMap as map
 use Rattle.std.specs.Ordering.{eq_by_cmp, nat_cmp}
 use Rattle.std.specs.Cmp.Lexicographic.{slice_cmp}
-use Rattle.std.specs.Int.{w32, w64, from_be_bytes, to_be_bytes}
+use Rattle.std.specs.Int.{w32, w64, from_be_bytes}
 use Rattle.std.proofs.lemmas.List.{take_at, drop_at, drop-drop, drop-take, take_all, length-append, take-take, take-append-drop, take-map, drop-map, map-append}
 use Rattle.std.proofs.lemmas.Nat.{from_be_bytes-to_be_bytes_4, from_be_bytes-to_be_bytes_8}
 use Rattle.std.proofs.lemmas.List.Elements.{All-take, All-head}
 use Rattle.amq_model.specs.declared.config.Config.{Config}
-use Rattle.amq_model.specs.declared.directory.Control.{Control}
 use Rattle.amq_model.specs.declared.record.Record.{Record}
 use Rattle.amq_model.specs.declared.record.Record.TheVariants as r
 use Rattle.amq_model.specs.declared.record.Placed.{Placed}
 use Rattle.amq_model.specs.RecordAt.{Spot, RecordAt, whole_len, long, word}
-use Rattle.amq_model.specs.Scan.{IsScan, IsScanFrom}
+use Rattle.amq_model.specs.Scan.{IsScan}
 use Rattle.amq_model.specs.Effect.{result_of}
 use Rattle.amq_model.specs.Kept.{IsPart, IsKept, IsWhole, closing_tx}
 use Rattle.amq_model.specs.Files.{FileName, Files, File, Image, IsPending, IsTorn, IsFileImage, IsImage, IsReading}
@@ -32,8 +31,8 @@ use Rattle.amq_model.specs.Answers.{history_of}
 use Rattle.amq_model.proofs.Alone.{IsHeader, alone, one_loads, files, uncontrolled, version, id}
 use Rattle.amq_model.proofs.Lookups.{same_true, same_self}
 use Rattle.amq_model.proofs.Recovering.{left_from}
-use Rattle.amq_scan.specs.Written.{Item, IsItem, IsFill, file_bytes, spelled, spots_from, end_from}
-use Rattle.amq_scan.proofs.Parts.{Has, has_contains, contains_has, all_by, all_has, get_has, part_has}
+use Rattle.amq_scan.specs.Written.{Item, IsItem, file_bytes, spelled, spots_from, end_from}
+use Rattle.amq_scan.proofs.Parts.{Has, has_contains, contains_has, all_by, all_has, get_has}
 use Rattle.amq_scan.proofs.Scans.{scan_from, scan_of-is, same_scan}
 use Rattle.amq_scan.proofs.Lengths.{spots_take, spots_drop, end_behind}
 use Rattle.amq_scan.proofs.Images.{same_part, scan_stands}
@@ -45,7 +44,7 @@ use Rattle.amq_engine.specs.Lists.{Lists, with_step, with_receipt}
 use Rattle.amq_model.specs.declared.history.Step.{Step}
 use Rattle.amq_engine.specs.Receipts.{FollowUpTo, AreInOrder, EndsWith, IsLastCount, IsCrashSafe}
 use Rattle.amq_engine.specs.declared.chronicle.Receipted.{Receipted}
-use Rattle.amq_engine.proofs.History.{all_plain}
+use Rattle.amq_engine.proofs.History.{all_plain, length-placed}
 use Rattle.amq_engine.proofs.Sound.{header_long}
 
 -- ---- parts
@@ -180,6 +179,7 @@ module _ (header : List ℕ) (len d : ℕ) (history : List Item) (s : Files) (le
       let rest : List Placed = map_of f r.0 in
       record {
         rest = rest;
+        counted = omega (arith, h.ahead, h.most, length-placed history);
         front = ap (map_of f) r.1 ∙ map-append f (spots_from 2 16 old) r.0 ∙ ap (λ (l : List Placed). l ++ rest) (sym durable);
         some = subst (IsPart rest) (sym rest_is) (part_further rest (map_of f (spots_from 2 (end_from 2 16 old) new)) (map_of f (spots_from 2 (end_from 2 (end_from 2 16 old) new) more)) (part_map f r.0 (spots_from 2 (end_from 2 16 old) new) r.2));
         whole = plain_whole [] (placed_in 1 history) (map_of f spots) plain;
@@ -291,7 +291,7 @@ module _ (config : Config) (low : config.user_version < 2 ^ 32) (short : config.
       } in
       record {
         kept = [];
-        is = record { rest = []; front = refl; some = tt; whole = λ k h p in_kept in_history sound. absurd (not_there k p in_kept) };
+        is = record { rest = []; counted = omega arith; front = refl; some = tt; whole = λ k h p in_kept in_history sound. absurd (not_there k p in_kept) };
         loads = subst (λ (fs : List (FileName × List ℕ)). Loads fs config.user_version (result_of [])) (sym is) nothing;
       }
     where
@@ -332,16 +332,23 @@ kept_recover config durable history base placed_records past (r ∷ rs) ranges i
     (λ s reading image may reads left none_false. may_load config (omega (arith, ranges.user_version)) (omega (arith, ranges.file_size_most)) r.durable history items s reading image reads left none_false may)
     (kept.0.1 early)))) low
 
+-- no receipt counts more than there is
+kept_count : (config : Config) (durable count : ℕ) (history : List Item) (past : Option Past) (rs : List Receipted) → durable ≤ count → AreKept past config durable history rs → (q : Receipted) → Has rs q → q.durable ≤ count
+kept_count config durable count history past [] most kept q has = absurd has
+kept_count config durable count history past (r ∷ rs) most kept q (inl same) = subst (λ (q : Receipted). q.durable ≤ count) same (omega (arith, kept.0.0, most))
+kept_count config durable count history past (r ∷ rs) most kept q (inr has) = kept_count config durable count history past rs most kept.1 q has
+
 -- the chronicle is crash safe
-pub told_safe : (past : Option Past) (moment : ℕ) (config : Config) (durable : ℕ) (history : List Item) (l : Lists) → IsConfig config → All IsPlainItem history → IsTold past config durable history l → AreInOrder moment l.receipts → IsCrashSafe past moment config.user_version l
-told_safe past moment config durable history l ranges items told order = record {
+pub told_safe : (past : Option Past) (moment : ℕ) (config : Config) (durable : ℕ) (history : List Item) (l : Lists) → IsConfig config → All IsPlainItem history → durable ≤ length history → IsTold past config durable history l → AreInOrder moment l.receipts → IsCrashSafe past moment config.user_version l
+told_safe past moment config durable history l ranges items most told order = record {
+  counted = all_by (λ (r : Receipted). r.durable ≤ length (history_of l.steps)) l.receipts (kept_count config durable (length (history_of l.steps)) history past l.receipts (omega (arith, most, length-placed history, ap length told.steps)) told.kept);
   recovers = all_by (λ (r : Receipted). r.moment < 2 ^ 64 - 1 → RecoversSince past r.moment config.user_version l.base (history_of l.steps) r.durable) l.receipts (kept_recover config durable history l.base (history_of l.steps) past l.receipts ranges items told.base told.steps told.kept);
   receipts = order;
 }
 
 pub valid_safe : (past : Option Past) (moment : ℕ) (lists : Option Lists) (room : ℕ) (config : Config) (live : BTreeSet ℕ) (buffer : List ℕ) (end appended durable : ℕ) → IsValid past moment lists room config live buffer end appended durable → IfSome lists (IsCrashSafe past moment config.user_version)
 valid_safe past moment None room config live buffer end appended durable v = tt
-valid_safe past moment (Some l) room config live buffer end appended durable v = told_safe past moment config durable v.sound.history l v.ranges v.sound.items v.sound.told v.order
+valid_safe past moment (Some l) room config live buffer end appended durable v = told_safe past moment config durable v.sound.history l v.ranges v.sound.items (omega (arith, v.sound.most, v.sound.count)) v.sound.told v.order
 
 -- one receipt more, of a flush that wrote and synced, or of none
 follow_more : (moment later count durable : ℕ) (r : Receipted) (rs : List Receipted) → durable ≤ count → moment ≤ later → (durable < count → later < 2 ^ 64 - 1 → moment + 2 ≤ later) → EndsWith durable r rs → FollowUpTo moment r rs

@@ -5,9 +5,8 @@ use Rattle.std.proofs.lemmas.List.{length-append, take-append-le}
 use Rattle.std.specs.FinMap as map
 use Rattle.amq_model.specs.Files.{FileName, Files, File, overlaid}
 use Rattle.amq_model.specs.Calls.{Past}
-use Rattle.amq_model.specs.Leaves.{Leaves}
 use Rattle.amq_model.specs.Leaves.{Told, IsThere, IsWithin}
-use Rattle.amq_model.specs.Leaves.{AllReads, HoldsSince}
+use Rattle.amq_model.specs.Leaves.{AllReads}
 use Rattle.amq_model.proofs.Keeping.{all_told}
 use Rattle.amq_scan.specs.Written.{Item, file_bytes, spelled, end_from}
 use Rattle.amq_engine.specs.Puts.{IsPutting, Puts, Put}

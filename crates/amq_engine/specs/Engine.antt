@@ -1,9 +1,8 @@
 -- What clauses see of an engine, and what is always so of one.
-use Rattle.std.specs.Prelude.{◌≡◌, ◌⊎◌, ◌↔◌, ℕ, ◌+◌, ◌-◌, ◌^◌, ◌<◌, ◌≤◌, Bool, true, false, ◌||◌, nat_lt, ◌==◌, if◌then◌else◌, List, [], ◌∷◌, ◌++◌, length, take, drop, map, codes, Option, None, Some, option_map, Result, Ok, Err, is_ok, not, ◌&&◌, IfSome, All, refl}
+use Rattle.std.specs.Prelude.{◌≡◌, ◌⊎◌, ℕ, ◌+◌, ◌-◌, ◌^◌, ◌<◌, ◌≤◌, Bool, true, false, ◌||◌, nat_lt, ◌==◌, if◌then◌else◌, List, [], ◌∷◌, length, take, drop, codes, Option, None, Some, option_map, Result, Ok, Err, is_ok, not, ◌&&◌, IfSome, All, refl}
 use Rattle.std.specs.Ordering.{nat_cmp}
 use Rattle.std.specs.BTreeSet.{BTreeSet, contains}
 use Rattle.std.specs.Coded.{Coded, code_by, coded×, coded_ℕ, coded_option}
-use Rattle.amq_model.specs.declared.record.Record.{Record}
 use Rattle.amq_model.specs.declared.record.Placed.{Placed}
 use Rattle.amq_model.specs.declared.command.Command.{Command}
 use Rattle.amq_model.specs.declared.command.Command.TheVariants as c
@@ -11,7 +10,6 @@ use Rattle.amq_model.specs.declared.command.Reply.{Reply}
 use Rattle.amq_model.specs.declared.config.Config.{Config}
 use Rattle.amq_model.specs.declared.history.Answer.{Answer}
 use Rattle.amq_model.specs.declared.history.Answer.TheVariants.{Done, Refused}
-use Rattle.amq_model.specs.declared.history.Step.{Step}
 use Rattle.amq_model.specs.declared.refusal.DiskCall.{DiskCall}
 use Rattle.amq_model.specs.declared.refusal.DiskCall.TheVariants as calls
 use Rattle.amq_model.specs.declared.refusal.Refusal.{Refusal}
@@ -19,9 +17,9 @@ use Rattle.amq_model.specs.declared.refusal.Refusal.TheVariants as r
 use Rattle.amq_model.specs.RecordAt.{len_of}
 use Rattle.amq_model.specs.declared.directory.OpenFault.{OpenFault}
 use Rattle.amq_model.specs.declared.directory.OpenFault.TheVariants as o
-use Rattle.amq_model.specs.Calls.{Past, listing, fine, noted}
+use Rattle.amq_model.specs.Calls.{Past, listing, fine, noted, counted}
 use Rattle.amq_model.specs.Files.{FileName, Files}
-use Rattle.amq_model.specs.Leaves.{AllReads, HoldsSince, Told}
+use Rattle.amq_model.specs.Leaves.{Leaves, Unchanged, AllReads, HoldsSince, Told}
 use Rattle.amq_model.specs.Answers.{record_of, history_of, in_view, too_large, first_some}
 use Rattle.amq_model.specs.Legal.{AreLegal}
 use Rattle.amq_model.specs.Plain.{IsPlain}
@@ -33,6 +31,7 @@ use Rattle.amq_io.specs.declared.faults.DiskFault.{DiskFault}
 use Rattle.amq_io.specs.declared.faults.DiskFault.TheVariants as f
 use Rattle.amq_engine.specs.Lists.{Lists, with_step, with_receipt}
 use Rattle.amq_engine.specs.Receipts.{AreInOrder, IsLastCount}
+use Rattle.amq_engine.specs.Prepare.{Prepares}
 use Rattle.amq_engine.specs.OneFile.{header_of, placed_in, Holds, IsFresh, IsEmpty}
 
 -- ---- the value
@@ -252,6 +251,19 @@ pub record IsBegun (past : Option Past) (moment : ℕ) (lists : Option Lists) (r
 -- nothing is told yet
 abbrev pub IsBlank : Lists → Type 0
 IsBlank l = (l.base ≡ []) × (l.steps ≡ []) × (l.receipts ≡ [])
+
+-- How far an opening came: it only asked what is there, or it listed the directory, noted the receipt of nothing at once, and then only prepared the one file.
+abbrev pub HasCome : Config → ℕ → Option Past → Option Past → Lists → Type 0
+HasCome config moment old new l =
+    ((l.receipts ≡ []) × Leaves Unchanged Unchanged old new)
+    ⊎ (AreBegun (counted moment) l × Leaves (Prepares temporary_name data_name config.file_size 74 (header_of config.user_version 1)) (Prepares temporary_name data_name config.file_size 74 (header_of config.user_version 1)) (option_map (noted listing fine) old) new)
+
+-- a refusal of a flush: since the engine is closed, for a disk call, or for want of memory
+abbrev pub IsFlushRefusal : Refusal → Type 0
+IsFlushRefusal (r.Closed fault) = Unit {0}
+IsFlushRefusal (r.Disk call) = Unit {0}
+IsFlushRefusal r.NoMemory = Unit {0}
+IsFlushRefusal _ = ⊥
 
 -- what an opening that failed leaves in the chronicle: no base and no step
 abbrev pub IsUnopened : Lists → Type 0

@@ -1,5 +1,5 @@
 -- A directory whose one data file has a header, records one behind the other, and filling.
-use Rattle.std.specs.Prelude.{◌≡◌, ◌⊎◌, ℕ, ◌+◌, ◌<◌, ◌≤◌, List, [], ◌∷◌, ◌++◌, length, take, map, Option, None, Some}
+use Rattle.std.specs.Prelude.{◌≡◌, ℕ, ◌≤◌, List, ◌++◌, length, take, map, None, Some}
 use Rattle.std.specs.FinMap as finite
 use Rattle.amq_model.specs.declared.record.Placed.{Placed}
 use Rattle.amq_model.specs.RecordAt.{Spot, long, word}

@@ -1,5 +1,5 @@
 -- The receipts of a chronicle: how they follow each other, and what a crash leaves since each.
-use Rattle.std.specs.Prelude.{◌≡◌, ℕ, ◌+◌, ◌-◌, ◌^◌, ◌<◌, ◌≤◌, List, [], ◌∷◌, Option, All}
+use Rattle.std.specs.Prelude.{◌≡◌, ℕ, ◌+◌, ◌-◌, ◌^◌, ◌<◌, ◌≤◌, List, [], ◌∷◌, length, Option, All}
 use Rattle.amq_model.specs.Answers.{history_of}
 use Rattle.amq_model.specs.Calls.{Past}
 use Rattle.amq_model.specs.Headline.{RecoversSince}
@@ -39,4 +39,5 @@ IsRecovered past wanted l = All (λ r. r.moment < 2 ^ 64 - 1 → RecoversSince p
 -- what is always so of a chronicle and the disk that it is about, at this moment
 pub record IsCrashSafe (past : Option Past) (moment wanted : ℕ) (l : Lists) : Type 0 where
   pub recovers : IsRecovered past wanted l
+  pub counted : All (λ r. r.durable ≤ length (history_of l.steps)) l.receipts
   pub receipts : AreInOrder moment l.receipts

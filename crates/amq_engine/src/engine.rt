@@ -1,14 +1,15 @@
 //! The journal over one disk.
 ghost use Rattle.std.specs.Prelude.{◌≡◌, ◌⊎◌, ◌↔◌, ℕ, ◌+◌, ◌-◌, ◌^◌, ◌<◌, ◌≤◌, [], length, Option, None, Some, Ok, Err, IfSome, IsSome, IfOk, IfErr, OnOk, OnErr};
 ghost use Rattle.amq_model.specs.Configs.{IsConfig};
-ghost use Rattle.amq_model.specs.Leaves.{Told, LeavesNothingNew};
+ghost use Rattle.amq_model.specs.Calls.{counted};
+ghost use Rattle.amq_model.specs.Leaves.{Told};
 ghost use Rattle.amq_model.specs.Plain.{IsAddOrDelete};
 ghost use Rattle.amq_model.specs.Legal.{AreLegal};
 ghost use Rattle.amq_model.specs.declared.refusal.DiskCall.{DiskCall};
 ghost use Rattle.amq_model.specs.Answers.{history_of};
 ghost use Rattle.amq_engine.specs.OneFile.{IsEmpty, IsJournalFile};
 ghost use Rattle.amq_engine.specs.Receipts.{IsCrashSafe, IsLastCount};
-ghost use Rattle.amq_engine.specs.Engine.{Notes, IsCommandAnswer, IsBlank, IsUnopened, AreBegun, HasOpenCause, HasCause, closed_after, durable_after, is_flushed, receipted, data_name};
+ghost use Rattle.amq_engine.specs.Engine.{Notes, IsCommandAnswer, IsBlank, IsUnopened, AreBegun, HasCome, HasOpenCause, HasCause, IsFlushRefusal, closed_after, durable_after, is_flushed, receipted, data_name};
 
 use crate::chronicle::Chronicle;
 use crate::keep::{keep, refusal_of};
@@ -95,7 +96,7 @@ impl<D: Disk, C: Chronicle> Engine<D, C> {
         requires blank { IfSome (C.lists chronicle) IsBlank }
         ensures opened { IfOk result (λ e. (e.0.config ≡ config) × (e.0.appended ≡ 0) × (e.0.durable ≡ 0) × (e.0.closed ≡ None)) }
         ensures state { IfOk result (λ e. e.1 ≡ record { live = []; in_doubt = [] }) }
-        ensures lists { IfOk result (λ e. IfSome (C.lists e.0.chronicle) (λ l. (moment : ℕ) × AreBegun moment l)) }
+        ensures lists { IfOk result (λ e. IfSome (C.lists e.0.chronicle) (AreBegun (counted (D.moment disk)))) }
         ensures empty { OnOk result (Told (D.past disk) IsEmpty) }
         ensures later { IfOk result (λ e. (D.faults disk).0 ≤ (D.faults e.0.disk).0) }
         ensures unopened { IfErr result (λ e. IfSome (C.lists e.chronicle) IsUnopened) }
@@ -106,7 +107,8 @@ impl<D: Disk, C: Chronicle> Engine<D, C> {
         ensures crash_safe { IfOk result (λ e. IfSome (C.lists e.0.chronicle) (IsCrashSafe (D.past e.0.disk) (D.moment e.0.disk) config.user_version)) }
         ensures failed_safe { IfErr result (λ e. IfSome (C.lists e.chronicle) (IsCrashSafe (D.past e.disk) (D.moment e.disk) config.user_version)) }
         ensures failed_empty { IfErr result (λ e. IfSome (C.lists e.chronicle) (λ l. (l.receipts ≡ []) ⊎ Told (D.past disk) IsEmpty)) }
-        ensures nothing_new { IfErr result (λ e. IfSome (C.lists e.chronicle) (λ l. l.receipts ≡ [] → LeavesNothingNew (D.past disk) (D.past e.disk))) }
+        ensures come { IfOk result (λ e. IfSome (C.lists e.0.chronicle) (HasCome config (D.moment disk) (D.past disk) (D.past e.0.disk))) }
+        ensures failed_come { IfErr result (λ e. IfSome (C.lists e.chronicle) (HasCome config (D.moment disk) (D.past disk) (D.past e.disk))) }
     {
         match begin(alloc, &mut disk, &mut chronicle, &config) {
             Ok(()) => {
@@ -200,6 +202,8 @@ impl<D: Disk, C: Chronicle> Engine<D, C> {
     pub fn flush(&mut self) -> Result<u64, Refusal>
         ensures ok { IfOk result (λ count. (count ≡ self.old.appended) × (self.new.durable ≡ self.old.appended)) }
         ensures err { OnErr result (self.new.durable ≡ self.old.durable) }
+        ensures refusals { IfErr result IsFlushRefusal }
+        ensures calls { D.moment self.new.disk ≤ D.moment self.old.disk + 2 }
         ensures same { (self.new.appended ≡ self.old.appended) × (self.new.config ≡ self.old.config) }
         ensures receipt { C.lists self.new.chronicle ≡ receipted (is_flushed result self.old.appended self.old.durable) self.old.appended (D.moment self.new.disk) (C.lists self.old.chronicle) }
         ensures idle { (self.old.durable ≡ self.old.appended) ⊎ IsSome self.old.closed → self.new.disk ≡ self.old.disk }
@@ -238,6 +242,9 @@ impl<D: Disk, C: Chronicle> Engine<D, C> {
     /// Flushes, and hands back the disk and the chronicle.
     pub fn close(mut self) -> (D, C, Result<u64, Refusal>)
         ensures ok { IfOk result.2 (λ count. count ≡ self.appended) }
+        ensures refusals { IfErr result.2 IsFlushRefusal }
+        ensures idle { (self.durable ≡ self.appended) ⊎ IsSome self.closed → result.0 ≡ self.disk }
+        ensures calls { D.moment result.0 ≤ D.moment self.disk + 2 }
         ensures receipt { C.lists result.1 ≡ receipted (is_flushed result.2 self.appended self.durable) self.appended (D.moment result.0) (C.lists self.chronicle) }
         ensures content { OnOk result.2 (IfSome (C.lists result.1) (λ l. Told (D.past result.0) (IsJournalFile data_name self.config.user_version self.config.file_size (history_of l.steps)))) }
         ensures legal { IfSome (C.lists result.1) (λ l. AreLegal l.base l.steps self.config) }

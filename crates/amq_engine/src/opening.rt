@@ -1,10 +1,11 @@
 //! Beginning a journal in an empty directory.
-ghost use Rattle.std.specs.Prelude.{◌≡◌, ◌⊎◌, ◌≤◌, [], ℕ, IfSome, IfOk, IfErr, OnOk, OnErr};
+ghost use Rattle.std.specs.Prelude.{◌≡◌, ◌⊎◌, ◌≤◌, [], IfSome, IfOk, IfErr, OnOk, OnErr};
 ghost use Rattle.amq_model.specs.Configs.{IsConfig};
-ghost use Rattle.amq_model.specs.Leaves.{Told, LeavesNothingNew};
+ghost use Rattle.amq_model.specs.Calls.{counted};
+ghost use Rattle.amq_model.specs.Leaves.{Told};
 ghost use Rattle.amq_engine.specs.OneFile.{IsEmpty};
 ghost use Rattle.amq_engine.specs.Receipts.{IsCrashSafe};
-ghost use Rattle.amq_engine.specs.Engine.{IsBegun, IsBlank, IsUnopened, AreBegun, HasOpenCause, open_fault};
+ghost use Rattle.amq_engine.specs.Engine.{IsBegun, IsBlank, IsUnopened, AreBegun, HasCome, HasOpenCause, open_fault};
 
 use crate::chronicle::Chronicle;
 use crate::header::header;
@@ -39,14 +40,14 @@ pub fn begin<D: Disk, C: Chronicle>(
     requires config { IsConfig config.now }
     requires blank { IfSome (C.lists chronicle.old) IsBlank }
     ensures begun { OnOk result (IsBegun (D.past disk.new) (D.moment disk.new) (C.lists chronicle.new) (C.receipt_room chronicle.new) config.now) }
-    ensures lists { OnOk result (IfSome (C.lists chronicle.new) (λ l. (moment : ℕ) × AreBegun moment l)) }
+    ensures lists { OnOk result (IfSome (C.lists chronicle.new) (AreBegun (counted (D.moment disk.old)))) }
     ensures empty { OnOk result (Told (D.past disk.old) IsEmpty) }
     ensures unopened { OnErr result (IfSome (C.lists chronicle.new) IsUnopened) }
     ensures cause { IfErr result (λ fault. HasOpenCause fault (D.past disk.old) (D.past disk.new) (D.faults disk.old) (D.faults disk.new)) }
     ensures later { (D.faults disk.old).0 ≤ (D.faults disk.new).0 }
     ensures crash_safe { IfSome (C.lists chronicle.new) (IsCrashSafe (D.past disk.new) (D.moment disk.new) config.now.user_version) }
     ensures failed_empty { IfSome (C.lists chronicle.new) (λ l. (l.receipts ≡ []) ⊎ Told (D.past disk.old) IsEmpty) }
-    ensures nothing_new { OnErr result (IfSome (C.lists chronicle.new) (λ l. l.receipts ≡ [] → LeavesNothingNew (D.past disk.old) (D.past disk.new))) }
+    ensures come { IfSome (C.lists chronicle.new) (HasCome config.now (D.moment disk.old) (D.past disk.old) (D.past disk.new)) }
 {
     let infos = match faults::list(disk) {
         Ok(infos) => infos,

@@ -1,5 +1,5 @@
 //! Making a file that is whole and durable before it has its name.
-ghost use Rattle.std.specs.Prelude.{◌≡◌, ◌≢◌, ◌≤◌, length, OnOk};
+ghost use Rattle.std.specs.Prelude.{◌≡◌, ◌≢◌, ◌≤◌, ◌+◌, length, OnOk};
 ghost use Rattle.amq_model.specs.Name.{HasNameForm};
 ghost use Rattle.amq_model.specs.Leaves.{Leaves};
 ghost use Rattle.amq_io.specs.Faults.{HasFault};
@@ -27,6 +27,7 @@ pub fn prepare<D: Disk>(
     ensures ok { OnOk result (Leaves (Prepares temporary.now name.now len 74 header.now) (Prepared temporary.now name.now len 74 header.now) (D.past disk.old) (D.past disk.new)) }
     ensures cause { HasFault result (D.faults disk.old) (D.faults disk.new) }
     ensures later { D.moment disk.old ≤ D.moment disk.new }
+    ensures calls { D.moment disk.new ≤ D.moment disk.old + 4 }
 {
     faults::create(disk, temporary, len, FILLING)?;
     faults::write_at(disk, temporary, 0, header)?;

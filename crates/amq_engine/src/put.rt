@@ -16,6 +16,7 @@ pub fn put<D: Disk>(disk: &mut D, name: &str, place: u64, bytes: &[u8]) -> Resul
     ensures cause { HasFault result (D.faults disk.old) (D.faults disk.new) }
     ensures time { OnOk result (D.moment disk.new ≡ counted (counted (D.moment disk.old))) }
     ensures later { D.moment disk.old ≤ D.moment disk.new }
+    ensures calls { D.moment disk.new ≤ D.moment disk.old + 2 }
 {
     faults::write_at(disk, name, place, bytes)?;
     faults::sync(disk, name)?;

@@ -209,13 +209,13 @@ abbrev kept_second : List Placed
 kept_second = at 41 (Add 2 7 (0x79 ∷ 0x6f ∷ [])) ∷ []
 
 second_is_kept : IsKept [] history 0 kept_second
-second_is_kept = record { rest = kept_second; front = refl; some = inr (inl (refl, tt)); whole = whole } where
+second_is_kept = record { rest = kept_second; counted = omega arith; front = refl; some = inr (inl (refl, tt)); whole = whole } where
   whole : IsWhole [] history kept_second
   whole zero h p = λ e f s. subst (λ (q : Placed). IfSome (closing_tx q.rec) (λ tx. All (Contains kept_second) (open_changes tx (take h history)))) (ap (λ o. unwrap_or o (at 41 (Add 2 7 (0x79 ∷ 0x6f ∷ [])))) e) tt
   whole (suc k) h p = λ e f s. absurd cc
 
-nothing_is_kept : (durable : ℕ) → (all : List Placed) → take durable all ≡ [] → IsKept [] all durable []
-nothing_is_kept durable all none = record { rest = []; front = sym none ∙ sym (append-nil (take durable all)); some = tt; whole = λ k h p e f s. absurd (by k p e) } where
+nothing_is_kept : (durable : ℕ) → (all : List Placed) → durable ≤ length all → take durable all ≡ [] → IsKept [] all durable []
+nothing_is_kept durable all few none = record { rest = []; counted = few; front = sym none ∙ sym (append-nil (take durable all)); some = tt; whole = λ k h p e f s. absurd (by k p e) } where
   by : (k : ℕ) (p : Placed) → slice_get [] k ≡ Some p → ⊥
   by zero p e = cc
   by (suc k) p e = cc
@@ -232,7 +232,11 @@ a_later_one_is_kept = record { kept = kept_second; is = second_is_kept; loads = 
 
 -- nothing is left, of a history of which nothing was durable
 pub nothing_needs_to_be_kept : LoadsKept [] history 0 0 (one name (header 2 1))
-nothing_needs_to_be_kept = record { kept = []; is = nothing_is_kept 0 history refl; loads = loads_alone (header 2 1) [] refl (omega arith) (λ p low. none_behind (header 2 1) 1 p low) }
+nothing_needs_to_be_kept = record { kept = []; is = nothing_is_kept 0 history (omega arith) refl; loads = loads_alone (header 2 1) [] refl (omega arith) (λ p low. none_behind (header 2 1) 1 p low) }
+
+-- a receipt doesn't count more than there is
+pub more_than_there_is : LoadsKept [] [] 5 0 (one name (header 2 1)) → ⊥
+more_than_there_is l = absurd (omega (arith, l.is.counted))
 
 -- a file with another version has a fault
 pub a_fault_is_not_kept : (base all : List Placed) (durable : ℕ) → LoadsKept base all durable 0 (one name (header 3 1)) → ⊥
@@ -371,7 +375,7 @@ recovers = record { earlier = omega arith; each = each } where
   each : (reading image : Image) → MayLeave (Some begun) 0 reading image → NoFalseRecord reading image → LoadsKept [] (take 1 history) 0 0 image
   each reading image (s, since, read, left) none_false = record {
     kept = [];
-    is = nothing_is_kept 0 (take 1 history) refl;
+    is = nothing_is_kept 0 (take 1 history) (omega arith) refl;
     loads = subst (λ (l : Listing). Loads l 0 (result_of [])) (sym (left_alone image (subst (λ (s : Files). IsImage s image) since.1 left))) (one_loads name (header 2 1) (header 2 1) 1 0 [] refl refl is_header refl (omega arith) (λ p low. none_behind (header 2 1) 1 p low));
   }
 

@@ -56,7 +56,7 @@ abbrev unsound : List Placed
 unsound = at 16 (Add 1 7 []) ∷ at 39 (AddTx 5 3 7 []) ∷ at 101 (Commit 5 2) ∷ []
 
 pub unsound_is_kept : IsKept [] history 1 unsound
-unsound_is_kept = record { rest = drop 1 unsound; front = refl; some = a_part; whole = whole } where
+unsound_is_kept = record { rest = drop 1 unsound; counted = omega arith; front = refl; some = a_part; whole = whole } where
   whole : IsWhole [] history unsound
   whole zero h p = λ e f s. known history unsound [] (at 16 (Add 1 7 [])) (slice_get unsound 0) refl (λ h f s. tt) h p e f s
   whole (suc zero) h p = λ e f s. known history unsound (take 1 unsound) (at 39 (AddTx 5 3 7 [])) (slice_get unsound 1) refl (λ h f s. tt) h p e f s
@@ -80,7 +80,7 @@ a_changed_commit base h = no_part (subst (λ l. IsPart l (drop 1 history)) (sym 
 -- ---- a sound COMMIT has its transaction there
 
 pub all_is_kept : IsKept [] history 1 history
-all_is_kept = record { rest = drop 1 history; front = refl; some = inl (refl, inl (refl, inl (refl, tt))); whole = whole } where
+all_is_kept = record { rest = drop 1 history; counted = omega arith; front = refl; some = inl (refl, inl (refl, inl (refl, tt))); whole = whole } where
   adds : All (Contains history) (at 39 (AddTx 5 3 7 []) ∷ at 70 (AddTx 5 4 7 []) ∷ [])
   adds zero d h = (1, omega arith, refl)
   adds (suc zero) d h = (2, omega arith, refl)

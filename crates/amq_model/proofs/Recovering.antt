@@ -1,5 +1,5 @@
 -- What holds of all that a crash may leave, images included, goes on from call to call.
-use Rattle.std.proofs.Common.{◌≡◌, ⊎_elim, ℕ, Option, None, Some, sym, subst, arith}
+use Rattle.std.proofs.Common.{⊎_elim, ℕ, Option, None, Some, sym, subst, arith}
 use Rattle.amq_model.specs.Files.{Files, Image, IsImage, IsReading}
 use Rattle.amq_model.specs.Calls.{Past}
 use Rattle.amq_model.specs.Crash.{ReadsSince}

@@ -1,5 +1,5 @@
 -- What a crash may keep of a history: the durable ones, some later ones in order, and no transaction in part.
-use Rattle.std.specs.Prelude.{◌≡◌, ℕ, ◌⊎◌, IsTrue, List, [], ◌∷◌, ◌++◌, take, drop, Option, Some, None, IfSome, slice_get, Contains, All}
+use Rattle.std.specs.Prelude.{◌≡◌, ℕ, ◌≤◌, ◌⊎◌, IsTrue, List, [], ◌∷◌, ◌++◌, length, take, drop, Option, Some, None, IfSome, slice_get, Contains, All}
 use Rattle.amq_model.specs.declared.record.Record.{Record}
 use Rattle.amq_model.specs.declared.record.Record.TheVariants as r
 use Rattle.amq_model.specs.declared.record.Placed.{Placed}
@@ -23,9 +23,10 @@ IsPart [] whole = Unit {0}
 IsPart (x ∷ xs) [] = ⊥
 IsPart (x ∷ xs) (y ∷ ys) = ((x ≡ y) × IsPart xs ys) ⊎ IsPart (x ∷ xs) ys
 
--- the first `durable` of the history, some of the rest in order, and whole transactions
+-- the first `durable` of the history, of which there are as many, some of the rest in order, and whole transactions
 pub record IsKept (base history : List Placed) (durable : ℕ) (kept : List Placed) : Type 0 where
   pub rest : List Placed
+  pub counted : durable ≤ length history
   pub front : kept ≡ take durable history ++ rest
   pub some : IsPart rest (drop durable history)
   pub whole : IsWhole base history kept
