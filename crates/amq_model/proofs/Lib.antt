@@ -20,4 +20,5 @@ pub mod RecordLinesExamples
 pub mod Recovering
 pub mod Scans
 pub mod Settling
+pub mod TextsExamples
 pub mod Vectors

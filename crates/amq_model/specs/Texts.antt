@@ -90,6 +90,31 @@ abbrev pub reply_line : Answer → List ℕ
 reply_line (Done reply) = line (reply_words reply)
 reply_line (Refused refusal) = refusal_line refusal
 
+-- the line of a label bound to a transaction, by its number
+abbrev pub bound_line : ℕ → List ℕ
+bound_line tx = line (codes "bound" ∷ decimal tx ∷ [])
+
+-- the line of a reclaim, with the count of files that it gave up
+abbrev pub given_up_line : ℕ → List ℕ
+given_up_line count = line (codes "given" ∷ codes "up" ∷ decimal count ∷ [])
+
+-- the line of a compaction that was started, with the count of its old files
+abbrev pub compacting_line : ℕ → List ℕ
+compacting_line olds = line (codes "compacting" ∷ decimal olds ∷ [])
+
+-- the line of steps of a compaction, by the phase behind the last of them
+abbrev pub step_line : Phase → List ℕ
+step_line p.Idle = line (codes "idle" ∷ [])
+step_line phase = line (codes "phase" ∷ phase_name phase ∷ [])
+
+-- the line before the reply lines of a producer, with its seat
+abbrev pub producer_line : ℕ → List ℕ
+producer_line seat = line (codes "producer" ∷ decimal seat ∷ [])
+
+-- the line of a whole compaction, with the counts of its old files and of its packed files
+abbrev pub compacted_line : ℕ → ℕ → List ℕ
+compacted_line olds news = line (codes "compacted" ∷ decimal olds ∷ decimal news ∷ [])
+
 -- ---- the report
 
 -- ADD and ADD_TX print the one word, UPDATE and UPDATE_TX the other
@@ -123,3 +148,12 @@ report_of state =
     ++ flat_map entry_line state.live
     ++ line (codes "in" ∷ codes "doubt" ∷ decimal (length state.in_doubt) ∷ [])
     ++ flat_map in_doubt_lines state.in_doubt
+
+-- ---- the summary of a generated script
+
+-- the count of appends, then those of the live records and of the transactions in doubt
+abbrev pub summary_of : ℕ → LoadState → List ℕ
+summary_of appended state =
+    line (codes "appended" ∷ decimal appended ∷ [])
+    ++ line (codes "live" ∷ decimal (length state.live) ∷ [])
+    ++ line (codes "in" ∷ codes "doubt" ∷ decimal (length state.in_doubt) ∷ [])
