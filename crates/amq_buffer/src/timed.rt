@@ -86,7 +86,8 @@ impl TimedBuffer {
 
     /// Whether no record is in it.
     pub fn is_empty(&self) -> bool
-        ensures { IsTrue result ↔ (self.now.bytes ≡ []) }
+        ensures bytes { IsTrue result ↔ (self.now.bytes ≡ []) }
+        ensures since { IsTrue result ↔ (self.now.since ≡ None) }
     {
         self.bytes.is_empty()
     }

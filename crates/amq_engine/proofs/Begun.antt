@@ -13,7 +13,7 @@ use Rattle.amq_model.specs.Calls.{Past, content, listing, fine, noted, counted}
 use Rattle.amq_model.specs.Leaves.{Told}
 use Rattle.amq_io.specs.Listed.{IsListed}
 use Rattle.amq_model.specs.Leaves.{AllReads, HoldsSince, IsAt}
-use Rattle.amq_model.specs.Leaves.{Leaves}
+use Rattle.amq_model.specs.Leaves.{Leaves, Unchanged}
 use Rattle.amq_io.specs.declared.disk.FileInfo.{FileInfo}
 use Rattle.amq_model.proofs.Settling.{list_settles}
 use Rattle.amq_model.proofs.Keeping.{reads_on, holds_now, kept_from, kept_weaker}
@@ -218,3 +218,11 @@ prepared_only config moment m lists lists' a b d at blank is notes went =
 pub some_if : (P : Lists → Type 0) (Q : Type 0) (lists : Option Lists) → Q → IfSome lists (λ l. P l ⊎ Q)
 some_if P Q None q = tt
 some_if P Q (Some l) q = inr q
+
+-- before anything was asked
+still : (h : Option Past) → Leaves Unchanged Unchanged h h
+still None = refl
+still (Some p) = (p, refl, record { later = omega arith; told = refl; reads = λ s reads. (s, reads, refl); left = λ t s early reads. inl reads; keeps = λ t s reads. reads })
+
+pub asked_nothing : (config : Config) (moment : ℕ) (lists : Option Lists) (h : Option Past) → IfSome lists IsBlank → IfSome lists (HasCome config moment h h)
+asked_nothing config moment lists h blank = if_some IsBlank (HasCome config moment h h) lists (λ l blank. inl (blank.2, still h)) blank

@@ -1,7 +1,6 @@
 -- What a journal leaves whose appends are all durable.
-use Rattle.std.proofs.Common.{◌≡◌, ℕ, List, ◌++◌, length, take, Option, None, Some, refl, sym, ap, subst, ◌∙◌}
+use Rattle.std.proofs.Common.{◌≡◌, ℕ, Bool, List, ◌++◌, length, take, Option, None, Some, refl, sym, ap, subst, ◌∙◌}
 use Rattle.std.specs.Prelude.{IfSome, IfOk, OnOk, All, Result, Ok, Err}
-use Rattle.std.specs.BTreeSet.{BTreeSet}
 use Rattle.std.proofs.lemmas.List.{take_at, take_all}
 use Rattle.amq_model.specs.declared.config.Config.{Config}
 use Rattle.amq_model.specs.declared.record.Placed.{Placed}
@@ -15,12 +14,13 @@ use Rattle.amq_scan.specs.Written.{Item, IsItem, spelled, spots_from, file_bytes
 use Rattle.amq_scan.proofs.Written.{scan_of_written}
 use Rattle.amq_engine.specs.Lists.{Lists}
 use Rattle.amq_engine.specs.OneFile.{header_of, placed_in, IsJournalFile}
+use Rattle.amq_engine.specs.declared.tail.Tail.{Tail}
 use Rattle.amq_engine.specs.Engine.{data_name, IsPlainItem, IsTold, IsSound}
 use Rattle.amq_engine.proofs.Sound.{Holding, header_long}
 
-pub when_done : {T E : Type 0} (r : Result T E) (F : T → Type 0) (P : Type 0) → ((x : T) → F x → P) → IfOk r F → OnOk r P
-when_done (Ok x) F P f h = f x h
-when_done (Err e) F P f h = tt
+pub when_ok : {T E : Type 0} (r : Result T E) (P Q : Type 0) → (P → Q) → OnOk r P → OnOk r Q
+when_ok (Ok x) P Q f h = f h
+when_ok (Err e) P Q f h = tt
 
 items_of : (history : List Item) → All IsPlainItem history → All (IsItem 2) history
 items_of history all = λ k d lt. (all k d lt).item
@@ -41,16 +41,16 @@ journal_of config history s items h =
       is = refl;
     }
 
-pub sound_journal : (past : Option Past) (lists : Option Lists) (room : ℕ) (config : Config) (live : BTreeSet ℕ) (buffer : List ℕ) (end appended durable : ℕ) → IsSound past lists room config live buffer end appended durable → durable ≡ appended
+pub sound_journal : (past : Option Past) (lists : Option Lists) (room : ℕ) (config : Config) (is_live : ℕ → Bool) (t : Tail) → IsSound past lists room config is_live t → t.durable ≡ t.appended
     → IfSome lists (λ l. Told past (IsJournalFile data_name config.user_version config.file_size (history_of l.steps)))
-sound_journal past lists room config live buffer end appended durable s flushed = by lists s.told where
+sound_journal past lists room config is_live t s flushed = by lists s.told where
   at : (l : Lists) → history_of l.steps ≡ placed_in 1 s.history → (h : Option Past) → Told h (Holding config (length s.history) s.history) → Told h (IsJournalFile data_name config.user_version config.file_size (history_of l.steps))
   at l is None told = tt
   at l is (Some p) told = subst (λ (ps : List Placed). IsJournalFile data_name config.user_version config.file_size ps (content p.start p.calls)) (sym is) (journal_of config s.history (content p.start p.calls) s.items told)
 
   now : Told past (Holding config (length s.history) s.history)
-  now = subst (λ (n : ℕ). Told past (Holding config n s.history)) (flushed ∙ s.count) (all_told past (Holding config durable s.history) s.reads_now)
+  now = subst (λ (n : ℕ). Told past (Holding config n s.history)) (flushed ∙ s.count) (all_told past (Holding config t.durable s.history) s.reads_now)
 
-  by : (o : Option Lists) → IfSome o (IsTold past config durable s.history) → IfSome o (λ l. Told past (IsJournalFile data_name config.user_version config.file_size (history_of l.steps)))
+  by : (o : Option Lists) → IfSome o (IsTold past config t.durable s.history) → IfSome o (λ l. Told past (IsJournalFile data_name config.user_version config.file_size (history_of l.steps)))
   by None told = tt
   by (Some l) told = at l told.steps past now

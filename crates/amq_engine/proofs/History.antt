@@ -1,5 +1,5 @@
 -- The history of records one behind the other in the one file, and how it answers and goes on.
-use Rattle.std.proofs.Common.{◌≡◌, inl, ℕ, suc, ◌+◌, ◌<◌, ◌≤◌, Bool, List, [], ◌∷◌, ◌++◌, length, Option, None, Some, refl, sym, ap, subst, ◌∙◌, append_assoc, arith}
+use Rattle.std.proofs.Common.{◌≡◌, inl, ℕ, suc, ◌+◌, ◌<◌, ◌≤◌, Bool, true, false, List, [], ◌∷◌, ◌++◌, length, Option, None, Some, refl, sym, ap, subst, ◌∙◌, append_assoc, arith}
 use Rattle.std.specs.Prelude.{All, map as map_of}
 use Rattle.std.proofs.lemmas.List.{length-map, map-append, append-nil}
 use Rattle.std.proofs.lemmas.List.Elements.{All-cons, All-head, All-tail, All-push, filter_map-append}
@@ -7,7 +7,8 @@ use Rattle.amq_model.specs.declared.record.Record.{Record}
 use Rattle.amq_model.specs.declared.record.Placed.{Placed}
 use Rattle.amq_model.specs.declared.command.Command.{Command}
 use Rattle.amq_model.specs.declared.command.Command.TheVariants as c
-use Rattle.amq_model.specs.declared.command.Reply.TheVariants.{Appended}
+use Rattle.amq_model.specs.declared.command.Reply.{Reply}
+use Rattle.amq_model.specs.declared.command.Reply.TheVariants.{Appended, Durable}
 use Rattle.amq_model.specs.declared.config.Config.{Config}
 use Rattle.amq_model.specs.declared.history.Answer.{Answer}
 use Rattle.amq_model.specs.declared.history.Answer.TheVariants.{Done, Refused}
@@ -15,7 +16,7 @@ use Rattle.amq_model.specs.declared.history.Step.{Step}
 use Rattle.amq_model.specs.declared.refusal.Refusal.{Refusal}
 use Rattle.amq_model.specs.RecordAt.{len_of, whole_len}
 use Rattle.amq_model.specs.Directory.{placed}
-use Rattle.amq_model.specs.Plain.{IsPlain, IsAddOrDelete}
+use Rattle.amq_model.specs.Plain.{IsPlain, IsPlainCommand}
 use Rattle.amq_model.specs.Answers.{record_of, history_of, in_view, live_behind, too_large, id_refusal, refusal, first_some, accepted, answer}
 use Rattle.amq_model.specs.Legal.{StandsNext, number_for, end_of, file_full, or_file_full, IsLegalStep, AreLegalFrom, AreLegal}
 use Rattle.amq_model.proofs.Plain.{plain_refusal}
@@ -23,7 +24,7 @@ use Rattle.amq_scan.specs.Written.{Item, spelled, spots_from, end_from}
 use Rattle.amq_scan.proofs.Written.{spots_more}
 use Rattle.amq_scan.proofs.Scans.{whole_len-pos}
 use Rattle.amq_engine.specs.OneFile.{placed_in}
-use Rattle.amq_engine.specs.Engine.{command_id, command_len, is_live_after, id_refused, full, refused, IsPlainItem}
+use Rattle.amq_engine.specs.Engine.{command_id, is_live_after, id_refused, full, refused, reply_to, is_flush, IsPlainItem}
 
 -- ---- places
 
@@ -78,17 +79,17 @@ spelled_some (x ∷ xs) is = absurd cc
 
 -- ---- answers
 
-abbrev pub answered_by : Option Refusal → ℕ → Answer
-answered_by (Some r) n = Refused r
-answered_by None n = Done (Appended n)
+abbrev pub answered_by : Option Refusal → Reply → Answer
+answered_by (Some r) reply = Refused r
+answered_by None reply = Done reply
 
 file_full_is : (config : Config) (history : List Placed) (end : ℕ) (command : Command) → end ≡ end_of history → file_full history config command ≡ full config end command
 file_full_is config history end command is = ap (λ (n : ℕ). full config n command) (sym is)
 
-id_refusal_is : (steps : List Step) (command : Command) → IsAddOrDelete command → id_refusal [] steps command ≡ id_refused (in_view (history_of steps) None (command_id command)) command
+id_refusal_is : (steps : List Step) (command : Command) → IsPlainCommand command → id_refusal [] steps command ≡ id_refused (in_view (history_of steps) None (command_id command)) command
 id_refusal_is steps (c.Add id user_type body) is = refl
 id_refusal_is steps (c.Delete id) is = refl
-id_refusal_is steps (c.Update id user_type body) is = absurd is
+id_refusal_is steps (c.Update id user_type body) is = refl
 id_refusal_is steps c.Begin is = absurd is
 id_refusal_is steps (c.AddTx tx id user_type body) is = absurd is
 id_refusal_is steps (c.UpdateTx tx id user_type body) is = absurd is
@@ -96,12 +97,12 @@ id_refusal_is steps (c.DeleteTx tx id body) is = absurd is
 id_refusal_is steps (c.Prepare tx extra) is = absurd is
 id_refusal_is steps (c.Commit tx) is = absurd is
 id_refusal_is steps (c.Rollback tx) is = absurd is
-id_refusal_is steps c.Flush is = absurd is
+id_refusal_is steps c.Flush is = refl
 
-accepted_is : (steps : List Step) (command : Command) → IsAddOrDelete command → accepted [] steps command ≡ Done (Appended (length (history_of steps)))
+accepted_is : (steps : List Step) (command : Command) → IsPlainCommand command → accepted [] steps command ≡ Done (reply_to (length (history_of steps)) command)
 accepted_is steps (c.Add id user_type body) is = refl
 accepted_is steps (c.Delete id) is = refl
-accepted_is steps (c.Update id user_type body) is = absurd is
+accepted_is steps (c.Update id user_type body) is = refl
 accepted_is steps c.Begin is = absurd is
 accepted_is steps (c.AddTx tx id user_type body) is = absurd is
 accepted_is steps (c.UpdateTx tx id user_type body) is = absurd is
@@ -109,7 +110,7 @@ accepted_is steps (c.DeleteTx tx id body) is = absurd is
 accepted_is steps (c.Prepare tx extra) is = absurd is
 accepted_is steps (c.Commit tx) is = absurd is
 accepted_is steps (c.Rollback tx) is = absurd is
-accepted_is steps c.Flush is = absurd is
+accepted_is steps c.Flush is = refl
 
 abbrev answer_by : Option Refusal → Answer → Answer
 answer_by (Some r) otherwise = Refused r
@@ -119,22 +120,22 @@ answer_opened : (steps : List Step) (config : Config) (command : Command) (o : O
 answer_opened steps config command None is = rw (is, answer) refl
 answer_opened steps config command (Some r) is = rw (is, answer) refl
 
-full_by : (history : List Placed) (config : Config) (command : Command) (n : ℕ) (a b o : Option Refusal) → file_full history config command ≡ o
-    → or_file_full history config command (answer_by (first_some (a ∷ b ∷ [])) (Done (Appended n))) ≡ answered_by (first_some (a ∷ b ∷ o ∷ [])) n
-full_by history config command n (Some r) b o is = refl
-full_by history config command n None (Some r) o is = refl
-full_by history config command n None None None is = rw (is, or_file_full) refl
-full_by history config command n None None (Some r) is = rw (is, or_file_full) refl
+full_by : (history : List Placed) (config : Config) (command : Command) (reply : Reply) (a b o : Option Refusal) → file_full history config command ≡ o
+    → or_file_full history config command (answer_by (first_some (a ∷ b ∷ [])) (Done reply)) ≡ answered_by (first_some (a ∷ b ∷ o ∷ [])) reply
+full_by history config command reply (Some r) b o is = refl
+full_by history config command reply None (Some r) o is = refl
+full_by history config command reply None None None is = rw (is, or_file_full) refl
+full_by history config command reply None None (Some r) is = rw (is, or_file_full) refl
 
--- what the journal of one thread answers an add or delete, where the file may be full
-pub answer_is : (steps : List Step) (config : Config) (command : Command) (is_live : Bool) (end : ℕ) → IsAddOrDelete command → All (λ p. IsPlain p.rec) (history_of steps) → is_live ≡ in_view (history_of steps) None (command_id command) → end ≡ end_of (history_of steps)
-    → or_file_full (history_of steps) config command (answer [] steps config command) ≡ answered_by (refused config is_live end command) (length (history_of steps))
+-- what the journal of one thread answers a command of no transaction, where the file may be full
+pub answer_is : (steps : List Step) (config : Config) (command : Command) (is_live : Bool) (end : ℕ) → IsPlainCommand command → All (λ p. IsPlain p.rec) (history_of steps) → is_live ≡ in_view (history_of steps) None (command_id command) → end ≡ end_of (history_of steps)
+    → or_file_full (history_of steps) config command (answer [] steps config command) ≡ answered_by (refused config is_live end command) (reply_to (length (history_of steps)) command)
 answer_is steps config command is_live end kind plain known at =
     ap (or_file_full (history_of steps) config command)
     (answer_opened steps config command (first_some (too_large config command ∷ id_refused is_live command ∷ []))
     (plain_refusal steps config command kind plain ∙ ap (λ (o : Option Refusal). first_some (too_large config command ∷ o ∷ [])) (id_refusal_is steps command kind ∙ ap (λ (b : Bool). id_refused b command) (sym known)))
     ∙ ap (answer_by (first_some (too_large config command ∷ id_refused is_live command ∷ []))) (accepted_is steps command kind))
-    ∙ full_by (history_of steps) config command (length (history_of steps)) (too_large config command) (id_refused is_live command) (full config end command) (file_full_is config (history_of steps) end command at)
+    ∙ full_by (history_of steps) config command (reply_to (length (history_of steps)) command) (too_large config command) (id_refused is_live command) (full config end command) (file_full_is config (history_of steps) end command at)
 
 -- ---- one more step
 
@@ -155,10 +156,10 @@ legal-snoc config steps s legal one seat = record {
 
 -- ---- the record of a command
 
-pub no_number_for : (l : List Placed) (command : Command) (file : ℕ) → IsAddOrDelete command → number_for l command file ≡ 0
+pub no_number_for : (l : List Placed) (command : Command) (file : ℕ) → IsPlainCommand command → number_for l command file ≡ 0
 no_number_for l (c.Add id user_type body) file is = refl
 no_number_for l (c.Delete id) file is = refl
-no_number_for l (c.Update id user_type body) file is = absurd is
+no_number_for l (c.Update id user_type body) file is = refl
 no_number_for l c.Begin file is = absurd is
 no_number_for l (c.AddTx tx id user_type body) file is = absurd is
 no_number_for l (c.UpdateTx tx id user_type body) file is = absurd is
@@ -166,11 +167,10 @@ no_number_for l (c.DeleteTx tx id body) file is = absurd is
 no_number_for l (c.Prepare tx extra) file is = absurd is
 no_number_for l (c.Commit tx) file is = absurd is
 no_number_for l (c.Rollback tx) file is = absurd is
-no_number_for l c.Flush file is = absurd is
+no_number_for l c.Flush file is = refl
 
--- the record of an add or delete: it has the command's length, is of no transaction, and changes what is live as the command says
+-- the record of a command of no transaction is of none, and changes what is live as the command says
 pub record IsRecordFor (command : Command) (rec : Record) : Type 0 where
-  pub len : len_of rec ≡ command_len command
   pub plain : IsPlain rec
   pub live : (p : Placed) (q : ℕ) (before : Bool) → p.rec ≡ rec → live_behind q before p ≡ is_live_after command q before
 
@@ -183,10 +183,10 @@ record_is command a b e is = subst (IsRecordFor command) (some_is a b e) is
 with_rec : (p : Placed) (rec : Record) (q : ℕ) (before : Bool) → p.rec ≡ rec → live_behind q before p ≡ live_behind q before (record { file = p.file; place = p.place; compact = p.compact; rec = rec })
 with_rec p rec q before e = ap (λ (r : Record). live_behind q before (record { file = p.file; place = p.place; compact = p.compact; rec = r })) e
 
-pub record_for_is : (command : Command) (rec : Record) → IsAddOrDelete command → record_of command 0 ≡ Some rec → IsRecordFor command rec
-record_for_is (c.Add id user_type body) rec kind is = record_is (c.Add id user_type body) _ rec is (record { len = refl; plain = tt; live = λ p q before e. with_rec p _ q before e })
-record_for_is (c.Delete id) rec kind is = record_is (c.Delete id) _ rec is (record { len = refl; plain = tt; live = λ p q before e. with_rec p _ q before e })
-record_for_is (c.Update id user_type body) rec kind is = absurd kind
+pub record_for_is : (command : Command) (rec : Record) → IsPlainCommand command → record_of command 0 ≡ Some rec → IsRecordFor command rec
+record_for_is (c.Add id user_type body) rec kind is = record_is (c.Add id user_type body) _ rec is (record { plain = tt; live = λ p q before e. with_rec p _ q before e })
+record_for_is (c.Delete id) rec kind is = record_is (c.Delete id) _ rec is (record { plain = tt; live = λ p q before e. with_rec p _ q before e })
+record_for_is (c.Update id user_type body) rec kind is = record_is (c.Update id user_type body) _ rec is (record { plain = tt; live = λ p q before e. with_rec p _ q before e })
 record_for_is c.Begin rec kind is = absurd kind
 record_for_is (c.AddTx tx id user_type body) rec kind is = absurd kind
 record_for_is (c.UpdateTx tx id user_type body) rec kind is = absurd kind
@@ -194,4 +194,41 @@ record_for_is (c.DeleteTx tx id body) rec kind is = absurd kind
 record_for_is (c.Prepare tx extra) rec kind is = absurd kind
 record_for_is (c.Commit tx) rec kind is = absurd kind
 record_for_is (c.Rollback tx) rec kind is = absurd kind
-record_for_is c.Flush rec kind is = absurd kind
+record_for_is c.Flush rec kind is = absurd cc
+
+-- a command without a record asks for a flush, and changes no id
+pub record IsBare (command : Command) : Type 0 where
+  pub reply : (n : ℕ) → Durable n ≡ reply_to n command
+  pub live : (q : ℕ) (before : Bool) → before ≡ is_live_after command q before
+  pub asks : is_flush command ≡ true
+
+pub bare_is : (command : Command) → IsPlainCommand command → record_of command 0 ≡ None → IsBare command
+bare_is (c.Add id user_type body) kind is = absurd cc
+bare_is (c.Update id user_type body) kind is = absurd cc
+bare_is (c.Delete id) kind is = absurd cc
+bare_is c.Flush kind is = record { reply = λ n. refl; live = λ q before. refl; asks = refl }
+bare_is c.Begin kind is = absurd kind
+bare_is (c.AddTx tx id user_type body) kind is = absurd kind
+bare_is (c.UpdateTx tx id user_type body) kind is = absurd kind
+bare_is (c.DeleteTx tx id body) kind is = absurd kind
+bare_is (c.Prepare tx extra) kind is = absurd kind
+bare_is (c.Commit tx) kind is = absurd kind
+bare_is (c.Rollback tx) kind is = absurd kind
+
+-- a command with a record is answered with its place, and asks for no flush
+pub record IsAppending (command : Command) : Type 0 where
+  pub reply : (n : ℕ) → Appended n ≡ reply_to n command
+  pub asks : is_flush command ≡ false
+
+pub appending_is : (command : Command) (rec : Record) → IsPlainCommand command → record_of command 0 ≡ Some rec → IsAppending command
+appending_is (c.Add id user_type body) rec kind is = record { reply = λ n. refl; asks = refl }
+appending_is (c.Update id user_type body) rec kind is = record { reply = λ n. refl; asks = refl }
+appending_is (c.Delete id) rec kind is = record { reply = λ n. refl; asks = refl }
+appending_is c.Flush rec kind is = absurd cc
+appending_is c.Begin rec kind is = absurd kind
+appending_is (c.AddTx tx id user_type body) rec kind is = absurd kind
+appending_is (c.UpdateTx tx id user_type body) rec kind is = absurd kind
+appending_is (c.DeleteTx tx id body) rec kind is = absurd kind
+appending_is (c.Prepare tx extra) rec kind is = absurd kind
+appending_is (c.Commit tx) rec kind is = absurd kind
+appending_is (c.Rollback tx) rec kind is = absurd kind

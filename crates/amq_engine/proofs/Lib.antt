@@ -6,7 +6,9 @@ pub mod ReceiptExamples
 pub mod Receipts
 pub mod History
 pub mod Sound
+pub mod Flushing
 pub mod Commands
+pub mod Accepting
 pub mod Recovering
 pub mod Begun
 pub mod Closed

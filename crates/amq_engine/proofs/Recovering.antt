@@ -1,7 +1,6 @@
 -- What a crash leaves of the one file loads to a kept part of the history.
 use Rattle.std.proofs.Common.{◌≡◌, inl, inr, ℕ, ◌+◌, ◌-◌, ◌<◌, ◌≤◌, ◌^◌, Bool, true, false, leb, List, [], ◌∷◌, ◌++◌, length, take, drop, Option, None, Some, refl, sym, ap, subst, ◌∙◌, arith}
 use Rattle.std.specs.Prelude.{◌%◌, All, Contains, IfSome, map as map_of, option_map, IsTrue, slice_get}
-use Rattle.std.specs.BTreeSet.{BTreeSet}
 use Rattle.std.proofs.lemmas.Bool.{false≢true}
 use Rattle.std.proofs.lemmas.Cmp.{nat_list_cmp_total}
 use Rattle.std.specs.FinMap as map
@@ -39,6 +38,7 @@ use Rattle.amq_scan.proofs.Images.{same_part, scan_stands}
 use Rattle.amq_scan.proofs.Written.{scan_of_written, spots_more, torn_written}
 use Rattle.amq_record.proofs.Lengths.{length_word, length_long}
 use Rattle.amq_engine.specs.OneFile.{header_of, placed_in, Holds, IsFresh}
+use Rattle.amq_engine.specs.declared.tail.Tail.{Tail}
 use Rattle.amq_engine.specs.Engine.{data_name, temporary_name, IsPlainItem, MayHold, AreKept, IsTold, IsValid}
 use Rattle.amq_engine.specs.Lists.{Lists, with_step, with_receipt}
 use Rattle.amq_model.specs.declared.history.Step.{Step}
@@ -346,9 +346,9 @@ told_safe past moment config durable history l ranges items most told order = re
   receipts = order;
 }
 
-pub valid_safe : (past : Option Past) (moment : ℕ) (lists : Option Lists) (room : ℕ) (config : Config) (live : BTreeSet ℕ) (buffer : List ℕ) (end appended durable : ℕ) → IsValid past moment lists room config live buffer end appended durable → IfSome lists (IsCrashSafe past moment config.user_version)
-valid_safe past moment None room config live buffer end appended durable v = tt
-valid_safe past moment (Some l) room config live buffer end appended durable v = told_safe past moment config durable v.sound.history l v.ranges v.sound.items (omega (arith, v.sound.most, v.sound.count)) v.sound.told v.order
+pub valid_safe : (past : Option Past) (moment : ℕ) (lists : Option Lists) (room : ℕ) (config : Config) (is_live : ℕ → Bool) (t : Tail) → IsValid past moment lists room config is_live t → IfSome lists (IsCrashSafe past moment config.user_version)
+valid_safe past moment None room config is_live t v = tt
+valid_safe past moment (Some l) room config is_live t v = told_safe past moment config t.durable v.sound.history l v.ranges v.sound.items (omega (arith, v.sound.most, v.sound.count)) v.sound.told v.order
 
 -- one receipt more, of a flush that wrote and synced, or of none
 follow_more : (moment later count durable : ℕ) (r : Receipted) (rs : List Receipted) → durable ≤ count → moment ≤ later → (durable < count → later < 2 ^ 64 - 1 → moment + 2 ≤ later) → EndsWith durable r rs → FollowUpTo moment r rs

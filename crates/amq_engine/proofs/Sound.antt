@@ -1,7 +1,6 @@
 -- What is always so of an engine, from call to call.
-use Rattle.std.proofs.Common.{◌≡◌, inl, ℕ, ◌+◌, ◌≤◌, List, [], ◌++◌, length, take, drop, Option, sym, ap, subst, ◌∙◌, arith}
+use Rattle.std.proofs.Common.{◌≡◌, inl, ℕ, ◌+◌, ◌≤◌, Bool, refl, List, [], ◌++◌, length, take, drop, Option, sym, ap, subst, ◌∙◌, arith}
 use Rattle.std.specs.Prelude.{IfSome, option_map}
-use Rattle.std.specs.BTreeSet.{BTreeSet}
 use Rattle.std.proofs.lemmas.List.{drop_all, take_all, length-append, length-drop}
 use Rattle.amq_model.specs.RecordAt.{long, word}
 use Rattle.amq_model.specs.declared.config.Config.{Config}
@@ -14,9 +13,9 @@ use Rattle.amq_scan.specs.Written.{Item, spelled, end_from}
 use Rattle.amq_engine.specs.Lists.{Lists, with_receipt}
 use Rattle.amq_engine.specs.OneFile.{header_of, Holds}
 use Rattle.amq_engine.specs.Puts.{Puts, Put}
-use Rattle.std.specs.Prelude.{Ok, not, true, false}
-use Rattle.std.proofs.lemmas.Bool.{eq-eqb, ne_eqb}
-use Rattle.amq_engine.specs.Engine.{data_name, MayHold, IsTold, IsSound, is_flushed}
+use Rattle.amq_engine.specs.declared.tail.Tail.{Tail}
+use Rattle.amq_engine.specs.Receipts.{AreInOrder, IsLastCount}
+use Rattle.amq_engine.specs.Engine.{data_name, MayHold, IsTold, IsSound, IsValid, emptied, end_of_tail}
 use Rattle.amq_engine.proofs.History.{spelled_some}
 use Rattle.amq_engine.proofs.Texts.{end_whole}
 use Rattle.amq_engine.proofs.Steps.{holds_puts, holds_put, holds_fewer, told_there, told_within}
@@ -69,69 +68,126 @@ module _ (config : Config) where
         }
 
 -- after a put that failed
-pub sound_failed : (a b : Option Past) (lists : Option Lists) (room : ℕ) (config : Config) (live : BTreeSet ℕ) (buffer : List ℕ) (end appended durable : ℕ) → IsSound a lists room config live buffer end appended durable
-    → Leaves (Puts data_name end buffer) (Puts data_name end buffer) a b → IsSound b lists room config live buffer end appended durable
-sound_failed a b lists room config live buffer end appended durable s leaves =
-    let le : durable ≤ length s.history = omega (arith, s.most, s.count) in
+pub sound_failed : (a b : Option Past) (lists : Option Lists) (room : ℕ) (config : Config) (is_live : ℕ → Bool) (t : Tail) → IsSound a lists room config is_live t
+    → Leaves (Puts data_name t.end t.buffer.bytes) (Puts data_name t.end t.buffer.bytes) a b → IsSound b lists room config is_live t
+sound_failed a b lists room config is_live t s leaves =
+    let le : t.durable ≤ length s.history = omega (arith, s.most, s.count) in
     record {
       history = s.history;
       items = s.items;
       size_least = s.size_least;
       size_most = s.size_most;
+      capacity = s.capacity;
+      timeout = s.timeout;
+      first = s.first;
       count = s.count;
       most = s.most;
       ids = s.ids;
-      reads_now = reads_still config s.history durable end buffer s.place s.buffered le s.fits a b s.reads_now leaves;
+      reads_now = reads_still config s.history t.durable t.end t.buffer.bytes s.place s.buffered le s.fits a b s.reads_now leaves;
       buffered = s.buffered;
       place = s.place;
       fits = s.fits;
       room = s.room;
-      told = if_some (IsTold a config durable s.history) (IsTold b config durable s.history) lists (λ l told. still_told config s.history durable end buffer s.place s.buffered le s.fits (Puts data_name end buffer) a b l s.reads_now leaves told) s.told;
+      told = if_some (IsTold a config t.durable s.history) (IsTold b config t.durable s.history) lists
+          (λ l told. still_told config s.history t.durable t.end t.buffer.bytes s.place s.buffered le s.fits (Puts data_name t.end t.buffer.bytes) a b l s.reads_now leaves told) s.told;
     }
 
+-- the tail behind a put that answered Ok
+abbrev pub put_out : Tail → Tail
+put_out t = record { buffer = emptied t.buffer; end = end_of_tail t; appended = t.appended; durable = t.appended }
+
 -- after a put, and its receipt
-pub sound_put : (a b : Option Past) (lists lists' : Option Lists) (room room' : ℕ) (config : Config) (live : BTreeSet ℕ) (buffer empty : List ℕ) (end end' appended durable m : ℕ) → IsSound a lists room config live buffer end appended durable
-    → Leaves (Puts data_name end buffer) (Put data_name end buffer) a b → IfSome b (IsAt m) → empty ≡ [] → end' ≡ end + length buffer → lists' ≡ option_map (with_receipt appended m) lists → IsSound b lists' room' config live empty end' appended appended
-sound_put a b lists lists' room room' config live buffer empty end end' appended durable m s leaves moment none at noted =
-    let le : durable ≤ length s.history = omega (arith, s.most, s.count) in
-    let told : IfSome (option_map (with_receipt appended m) lists) (IsTold b config appended s.history) =
-    if_mapped (IsTold a config durable s.history) (IsTold b config appended s.history) (with_receipt appended m) lists
-    (λ l told. receipt_told config s.history durable end buffer s.place s.buffered le s.fits a b l appended m s.count s.reads_now leaves moment told) s.told in
+pub sound_put : (a b : Option Past) (lists lists' : Option Lists) (room room' : ℕ) (config : Config) (is_live : ℕ → Bool) (t : Tail) (m : ℕ) → IsSound a lists room config is_live t
+    → Leaves (Puts data_name t.end t.buffer.bytes) (Put data_name t.end t.buffer.bytes) a b → IfSome b (IsAt m) → lists' ≡ option_map (with_receipt t.appended m) lists → IsSound b lists' room' config is_live (put_out t)
+sound_put a b lists lists' room room' config is_live t m s leaves moment noted =
+    let le : t.durable ≤ length s.history = omega (arith, s.most, s.count) in
+    let told : IfSome (option_map (with_receipt t.appended m) lists) (IsTold b config t.appended s.history) =
+    if_mapped (IsTold a config t.durable s.history) (IsTold b config t.appended s.history) (with_receipt t.appended m) lists
+    (λ l told. receipt_told config s.history t.durable t.end t.buffer.bytes s.place s.buffered le s.fits a b l t.appended m s.count s.reads_now leaves moment told) s.told in
     record {
       history = s.history;
       items = s.items;
       size_least = s.size_least;
       size_most = s.size_most;
+      capacity = s.capacity;
+      timeout = s.timeout;
+      first = (λ e. refl, λ e. refl);
       count = s.count;
       most = omega arith;
       ids = s.ids;
-      reads_now = subst (λ (n : ℕ). AllReads b (Holding config n s.history)) (sym s.count) (reads_put config s.history durable end buffer s.place s.buffered le s.fits a b s.reads_now leaves);
-      buffered = none ∙ sym (ap (spelled 2 1) (drop_all appended s.history (omega (arith, s.count))));
-      place = at ∙ end_whole 1 durable end s.history buffer s.place s.buffered ∙ ap (end_from 2 16) (sym (take_all appended s.history (omega (arith, s.count))));
-      fits = omega (arith, at, s.fits, ap length none);
-      room = λ some. absurd (some none);
-      told = subst (λ (l : Option Lists). IfSome l (IsTold b config appended s.history)) (sym noted) told;
+      reads_now = subst (λ (n : ℕ). AllReads b (Holding config n s.history)) (sym s.count) (reads_put config s.history t.durable t.end t.buffer.bytes s.place s.buffered le s.fits a b s.reads_now leaves);
+      buffered = sym (ap (spelled 2 1) (drop_all t.appended s.history (omega (arith, s.count))));
+      place = end_whole 1 t.durable t.end s.history t.buffer.bytes s.place s.buffered ∙ ap (end_from 2 16) (sym (take_all t.appended s.history (omega (arith, s.count))));
+      fits = omega (arith, s.fits);
+      room = λ some. absurd (some refl);
+      told = subst (λ (l : Option Lists). IfSome l (IsTold b config t.appended s.history)) (sym noted) told;
     }
 
 -- an empty buffer: all is durable
-pub all_durable : (past : Option Past) (lists : Option Lists) (room : ℕ) (config : Config) (live : BTreeSet ℕ) (buffer : List ℕ) (end appended durable : ℕ) → IsSound past lists room config live buffer end appended durable → buffer ≡ [] → durable ≡ appended
-all_durable past lists room config live buffer end appended durable s none =
-    let rest : drop durable s.history ≡ [] = spelled_some (drop durable s.history) (sym s.buffered ∙ none) in
-    omega (arith, s.most, s.count, ap length rest, length-drop durable s.history)
+pub all_durable : (past : Option Past) (lists : Option Lists) (room : ℕ) (config : Config) (is_live : ℕ → Bool) (t : Tail) → IsSound past lists room config is_live t → t.buffer.bytes ≡ [] → t.durable ≡ t.appended
+all_durable past lists room config is_live t s none =
+    let rest : drop t.durable s.history ≡ [] = spelled_some (drop t.durable s.history) (sym s.buffered ∙ none) in
+    omega (arith, s.most, s.count, ap length rest, length-drop t.durable s.history)
 
--- where all is durable, nothing is in the buffer
-pub nothing_kept : (past : Option Past) (lists : Option Lists) (room : ℕ) (config : Config) (live : BTreeSet ℕ) (buffer : List ℕ) (end appended durable : ℕ) → IsSound past lists room config live buffer end appended durable → durable ≡ appended → buffer ≡ []
-nothing_kept past lists room config live buffer end appended durable s all = s.buffered ∙ ap (spelled 2 1) (drop_all durable s.history (omega (arith, all, s.count)))
+-- with the same ids live
+pub valid_live : (past : Option Past) (moment : ℕ) (lists : Option Lists) (room : ℕ) (config : Config) (is_live is_live' : ℕ → Bool) (t : Tail) → ((id : ℕ) → is_live' id ≡ is_live id) → IsValid past moment lists room config is_live t → IsValid past moment lists room config is_live' t
+valid_live past moment lists room config is_live is_live' t same v =
+    let s = v.sound in
+    record {
+      sound = record {
+        history = s.history;
+        items = s.items;
+        size_least = s.size_least;
+        size_most = s.size_most;
+        capacity = s.capacity;
+        timeout = s.timeout;
+        first = s.first;
+        count = s.count;
+        most = s.most;
+        ids = λ id. same id ∙ s.ids id;
+        reads_now = s.reads_now;
+        buffered = s.buffered;
+        place = s.place;
+        fits = s.fits;
+        room = s.room;
+        told = s.told;
+      };
+      ranges = v.ranges;
+      order = v.order;
+      last = v.last;
+    }
 
-pub not_flushed : (n appended durable : ℕ) → durable ≡ appended → is_flushed (Ok n) appended durable ≡ false
-not_flushed n appended durable all = ap not (eq-eqb durable appended all)
-
-pub was_flushed : (n appended durable : ℕ) → (durable ≡ appended → ⊥) → is_flushed (Ok n) appended durable ≡ true
-was_flushed n appended durable some = ap not (ne_eqb durable appended some)
+-- with the same lists, and room at least as much
+pub valid_room : (past : Option Past) (moment : ℕ) (lists lists' : Option Lists) (room room' : ℕ) (config : Config) (is_live : ℕ → Bool) (t : Tail) → lists' ≡ lists → room ≤ room' → IsValid past moment lists room config is_live t → IsValid past moment lists' room' config is_live t
+valid_room past moment lists lists' room room' config is_live t same more v =
+    let s = v.sound in
+    record {
+      sound = record {
+        history = s.history;
+        items = s.items;
+        size_least = s.size_least;
+        size_most = s.size_most;
+        capacity = s.capacity;
+        timeout = s.timeout;
+        first = s.first;
+        count = s.count;
+        most = s.most;
+        ids = s.ids;
+        reads_now = s.reads_now;
+        buffered = s.buffered;
+        place = s.place;
+        fits = s.fits;
+        room = λ some. omega (arith, s.room some, more);
+        told = subst (λ (l : Option Lists). IfSome l (IsTold past config t.durable s.history)) (sym same) s.told;
+      };
+      ranges = v.ranges;
+      order = subst (λ (l : Option Lists). IfSome l (λ l. AreInOrder moment l.receipts)) (sym same) v.order;
+      last = subst (λ (l : Option Lists). IfSome l (λ l. IsLastCount t.durable l.receipts)) (sym same) v.last;
+    }
 
 -- what the calls of a flush require
-pub sound_there : (past : Option Past) (lists : Option Lists) (room : ℕ) (config : Config) (live : BTreeSet ℕ) (buffer : List ℕ) (end appended durable : ℕ) → IsSound past lists room config live buffer end appended durable → Told past (IsThere data_name)
-sound_there past lists room config live buffer end appended durable s = told_there data_name (header_of config.user_version 1) 1 durable config.file_size s.history past s.reads_now
+pub sound_there : (past : Option Past) (lists : Option Lists) (room : ℕ) (config : Config) (is_live : ℕ → Bool) (t : Tail) → IsSound past lists room config is_live t → Told past (IsThere data_name)
+sound_there past lists room config is_live t s = told_there data_name (header_of config.user_version 1) 1 t.durable config.file_size s.history past s.reads_now
 
-pub sound_within : (past : Option Past) (lists : Option Lists) (room : ℕ) (config : Config) (live : BTreeSet ℕ) (buffer : List ℕ) (end appended durable n : ℕ) → IsSound past lists room config live buffer end appended durable → n ≡ length buffer → Told past (IsWithin data_name (end + n))
-sound_within past lists room config live buffer end appended durable n s is = told_within data_name (header_of config.user_version 1) 1 durable config.file_size (end + n) s.history (omega (arith, s.fits, is)) past s.reads_now
+pub sound_within : (past : Option Past) (lists : Option Lists) (room : ℕ) (config : Config) (is_live : ℕ → Bool) (t : Tail) → IsSound past lists room config is_live t → Told past (IsWithin data_name (end_of_tail t))
+sound_within past lists room config is_live t s = told_within data_name (header_of config.user_version 1) 1 t.durable config.file_size (end_of_tail t) s.history s.fits past s.reads_now

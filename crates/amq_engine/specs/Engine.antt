@@ -1,12 +1,12 @@
 -- What clauses see of an engine, and what is always so of one.
-use Rattle.std.specs.Prelude.{◌≡◌, ◌⊎◌, ℕ, ◌+◌, ◌-◌, ◌^◌, ◌<◌, ◌≤◌, Bool, true, false, ◌||◌, nat_lt, ◌==◌, if◌then◌else◌, List, [], ◌∷◌, length, take, drop, codes, Option, None, Some, option_map, Result, Ok, Err, is_ok, not, ◌&&◌, IfSome, All, refl}
-use Rattle.std.specs.Ordering.{nat_cmp}
-use Rattle.std.specs.BTreeSet.{BTreeSet, contains}
+use Rattle.std.specs.Prelude.{◌≡◌, ◌⊎◌, ◌↔◌, ℕ, ◌+◌, ◌-◌, ◌^◌, ◌<◌, ◌≤◌, max, Bool, true, false, ◌||◌, nat_lt, ◌==◌, if◌then◌else◌, List, [], ◌∷◌, ◌++◌, length, take, drop, codes, Option, None, Some, is_some, option_map, Result, Ok, Err, is_ok, ◌&&◌, IfSome, All, refl}
 use Rattle.std.specs.Coded.{Coded, code_by, coded×, coded_ℕ, coded_option}
+use Rattle.amq_model.specs.declared.record.Record.{Record}
 use Rattle.amq_model.specs.declared.record.Placed.{Placed}
 use Rattle.amq_model.specs.declared.command.Command.{Command}
 use Rattle.amq_model.specs.declared.command.Command.TheVariants as c
 use Rattle.amq_model.specs.declared.command.Reply.{Reply}
+use Rattle.amq_model.specs.declared.command.Reply.TheVariants.{Appended, Durable}
 use Rattle.amq_model.specs.declared.config.Config.{Config}
 use Rattle.amq_model.specs.declared.history.Answer.{Answer}
 use Rattle.amq_model.specs.declared.history.Answer.TheVariants.{Done, Refused}
@@ -14,7 +14,7 @@ use Rattle.amq_model.specs.declared.refusal.DiskCall.{DiskCall}
 use Rattle.amq_model.specs.declared.refusal.DiskCall.TheVariants as calls
 use Rattle.amq_model.specs.declared.refusal.Refusal.{Refusal}
 use Rattle.amq_model.specs.declared.refusal.Refusal.TheVariants as r
-use Rattle.amq_model.specs.RecordAt.{len_of}
+use Rattle.amq_model.specs.RecordAt.{len_of, spelling}
 use Rattle.amq_model.specs.declared.directory.OpenFault.{OpenFault}
 use Rattle.amq_model.specs.declared.directory.OpenFault.TheVariants as o
 use Rattle.amq_model.specs.Calls.{Past, listing, fine, noted, counted}
@@ -24,13 +24,15 @@ use Rattle.amq_model.specs.Answers.{record_of, history_of, in_view, too_large, f
 use Rattle.amq_model.specs.Legal.{AreLegal}
 use Rattle.amq_model.specs.Plain.{IsPlain}
 use Rattle.amq_model.specs.Configs.{IsConfig}
+use Rattle.amq_buffer.specs.Buffered.{Buffered, begun, is_due}
 use Rattle.amq_scan.specs.Written.{Item, IsItem, spelled, end_from}
 use Rattle.amq_engine.specs.declared.chronicle.Receipted.{Receipted}
+use Rattle.amq_engine.specs.declared.tail.Tail.{Tail}
 use Rattle.amq_io.specs.Cause.{Rose, Faults}
 use Rattle.amq_io.specs.declared.faults.DiskFault.{DiskFault}
 use Rattle.amq_io.specs.declared.faults.DiskFault.TheVariants as f
 use Rattle.amq_engine.specs.Lists.{Lists, with_step, with_receipt}
-use Rattle.amq_engine.specs.Receipts.{AreInOrder, IsLastCount}
+use Rattle.amq_engine.specs.Receipts.{AreInOrder, IsLastCount, IsCrashSafe}
 use Rattle.amq_engine.specs.Prepare.{Prepares}
 use Rattle.amq_engine.specs.OneFile.{header_of, placed_in, Holds, IsFresh, IsEmpty}
 
@@ -73,21 +75,66 @@ config_code =
     (λ p. record { file_size = p.0; min_files = p.1.0; pool_files = p.1.1.0; compact_min_files = p.1.1.1.0; compact_percentage = p.1.1.1.1.0; buffer_size = p.1.1.1.1.1.0; buffer_timeout = p.1.1.1.1.1.1.0; user_version = p.1.1.1.1.1.1.1 })
     (λ _. refl)
 
--- what clauses see of an engine: its disk and chronicle, the parameters, how many appends there were, how many of them are durable, and the call after which it is closed
+-- What clauses see of an engine: its disk and chronicle, the parameters, how many appends there were, how many of them are durable, how many bytes the others take in the buffer, since when the first of those waits, the clock, and the call after which it is closed.
 pub record EngineOf (D C : Type 0) : Type 0 where
   pub disk : D
   pub chronicle : C
   pub config : Config
   pub appended : ℕ
   pub durable : ℕ
+  pub waiting : ℕ
+  pub since : Option ℕ
+  pub clock : ℕ
   pub closed : Option DiskCall
 
 abbrev pub engine_code : {D C : Type 0} → Coded D → Coded C → Coded (EngineOf D C)
 engine_code {D} {C} d c =
-    code_by (D × (C × (Config × (ℕ × (ℕ × Option DiskCall))))) (coded× d (coded× c (coded× config_code (coded× coded_ℕ (coded× coded_ℕ (coded_option call_code))))))
-    (λ e. (e.disk, (e.chronicle, (e.config, (e.appended, (e.durable, e.closed))))))
-    (λ p. record { disk = p.0; chronicle = p.1.0; config = p.1.1.0; appended = p.1.1.1.0; durable = p.1.1.1.1.0; closed = p.1.1.1.1.1 })
+    code_by (D × (C × (Config × (ℕ × (ℕ × (ℕ × (Option ℕ × (ℕ × Option DiskCall)))))))) (coded× d (coded× c (coded× config_code (coded× coded_ℕ (coded× coded_ℕ (coded× coded_ℕ (coded× (coded_option coded_ℕ) (coded× coded_ℕ (coded_option call_code)))))))))
+    (λ e. (e.disk, (e.chronicle, (e.config, (e.appended, (e.durable, (e.waiting, (e.since, (e.clock, e.closed)))))))))
+    (λ p. record { disk = p.0; chronicle = p.1.0; config = p.1.1.0; appended = p.1.1.1.0; durable = p.1.1.1.1.0; waiting = p.1.1.1.1.1.0; since = p.1.1.1.1.1.1.0; clock = p.1.1.1.1.1.1.1.0; closed = p.1.1.1.1.1.1.1.1 })
     (λ _. refl)
+
+-- ---- the end of the file in use
+
+-- where the history ends, that of the buffer with it
+abbrev pub end_of_tail : Tail → ℕ
+end_of_tail t = t.end + length t.buffer.bytes
+
+-- nothing waits in the buffer
+abbrev pub emptied : Buffered → Buffered
+emptied b = record { bytes = []; capacity = b.capacity; timeout = b.timeout; since = None }
+
+-- behind a flush
+abbrev pub written_out : Tail → Tail
+written_out t = record { buffer = emptied t.buffer; end = end_of_tail t; appended = t.appended; durable = if is_some t.buffer.since then t.appended else t.durable }
+
+-- one record more waits in the buffer, where there is one
+abbrev pub with_put : ℕ → Option Record → Tail → Tail
+with_put now None t = t
+with_put now (Some rec) t = record {
+  buffer = record { bytes = t.buffer.bytes ++ spelling 2 1 0 rec; capacity = t.buffer.capacity; timeout = t.buffer.timeout; since = begun now t.buffer.since };
+  end = t.end;
+  appended = t.appended + 1;
+  durable = t.durable;
+}
+
+-- whether the buffer has no room for what a command without a record, or with this one, does: it is written out first
+abbrev pub is_without_room : Buffered → Option Record → Bool
+is_without_room b None = true
+is_without_room b (Some rec) = nat_lt b.capacity (length b.bytes + len_of rec)
+
+-- ready for a command without a record, or with this one
+abbrev pub readied : Option Record → Tail → Tail
+readied rec t = if is_without_room t.buffer rec then written_out t else t
+
+-- where the record stands that is put next
+abbrev pub placed_behind : Tail → Record → Placed
+placed_behind t rec = record { file = 1; place = end_of_tail t; compact = 0; rec = rec }
+
+-- the reply to a command without a record, or with this one
+abbrev pub reply_of : Tail → Option Record → Reply
+reply_of t None = Durable t.durable
+reply_of t (Some rec) = Appended t.appended
 
 -- ---- what is always so
 
@@ -122,51 +169,59 @@ pub record IsTold (past : Option Past) (config : Config) (durable : ℕ) (histor
   pub legal : AreLegal l.base l.steps config
   pub kept : AreKept past config durable history l.receipts
 
-pub record IsSound (past : Option Past) (lists : Option Lists) (receipt_room : ℕ) (config : Config) (live : BTreeSet ℕ) (buffer : List ℕ) (end appended durable : ℕ) : Type 0 where
+-- what is so of a journal whose history goes on in the buffer
+pub record IsSound (past : Option Past) (lists : Option Lists) (receipt_room : ℕ) (config : Config) (is_live : ℕ → Bool) (tail : Tail) : Type 0 where
   pub history : List Item
   pub items : All IsPlainItem history
   pub size_least : 64 ≤ config.file_size
   pub size_most : config.file_size ≤ 268435456
-  pub count : appended ≡ length history
-  pub most : durable ≤ appended
-  pub ids : (id : ℕ) → contains nat_cmp live id ≡ in_view (placed_in 1 history) None id
-  pub reads_now : AllReads past (Holds data_name (header_of config.user_version 1) 1 config.file_size durable history)
-  pub buffered : buffer ≡ spelled 2 1 (drop durable history)
-  pub place : end ≡ end_from 2 16 (take durable history)
-  pub fits : end + length buffer ≤ config.file_size
-  pub room : (buffer ≡ [] → ⊥) → 1 ≤ receipt_room
-  pub told : IfSome lists (IsTold past config durable history)
+  pub capacity : tail.buffer.capacity ≡ config.buffer_size
+  pub timeout : tail.buffer.timeout ≡ config.buffer_timeout
+  pub first : (tail.buffer.since ≡ None) ↔ (tail.buffer.bytes ≡ [])
+  pub count : tail.appended ≡ length history
+  pub most : tail.durable ≤ tail.appended
+  pub ids : (id : ℕ) → is_live id ≡ in_view (placed_in 1 history) None id
+  pub reads_now : AllReads past (Holds data_name (header_of config.user_version 1) 1 config.file_size tail.durable history)
+  pub buffered : tail.buffer.bytes ≡ spelled 2 1 (drop tail.durable history)
+  pub place : tail.end ≡ end_from 2 16 (take tail.durable history)
+  pub fits : end_of_tail tail ≤ config.file_size
+  pub room : (tail.buffer.bytes ≡ [] → ⊥) → 1 ≤ receipt_room
+  pub told : IfSome lists (IsTold past config tail.durable history)
 
 -- the same, with the range of the parameters, and receipts in order, the last of which counts what is durable
-pub record IsValid (past : Option Past) (moment : ℕ) (lists : Option Lists) (receipt_room : ℕ) (config : Config) (live : BTreeSet ℕ) (buffer : List ℕ) (end appended durable : ℕ) : Type 0 where
-  pub sound : IsSound past lists receipt_room config live buffer end appended durable
+pub record IsValid (past : Option Past) (moment : ℕ) (lists : Option Lists) (receipt_room : ℕ) (config : Config) (is_live : ℕ → Bool) (tail : Tail) : Type 0 where
+  pub sound : IsSound past lists receipt_room config is_live tail
   pub ranges : IsConfig config
   pub order : IfSome lists (λ l. AreInOrder moment l.receipts)
-  pub last : IfSome lists (λ l. IsLastCount durable l.receipts)
+  pub last : IfSome lists (λ l. IsLastCount tail.durable l.receipts)
+
+-- what is always so of the chronicle of a journal with so many appends, of which so many are durable
+pub record IsChronicle (past : Option Past) (moment : ℕ) (config : Config) (appended durable : ℕ) (l : Lists) : Type 0 where
+  pub legal : AreLegal l.base l.steps config
+  pub history : appended ≡ length (history_of l.steps)
+  pub crash_safe : IsCrashSafe past moment config.user_version l
+  pub last : IsLastCount durable l.receipts
 
 -- ---- commands
 
--- the id of an add or delete
+-- the id of a command of no transaction, if it has one
 abbrev pub command_id : Command → ℕ
 command_id (c.Add id user_type body) = id
+command_id (c.Update id user_type body) = id
 command_id (c.Delete id) = id
 command_id _ = 0
-
--- the length of its record
-abbrev pub command_len : Command → ℕ
-command_len (c.Add id user_type body) = 23 + length body
-command_len (c.Delete id) = 18
-command_len _ = 0
 
 -- whether an id is live after it, if it was before
 abbrev pub is_live_after : Command → ℕ → Bool → Bool
 is_live_after (c.Add id user_type body) q before = before || id == q
+is_live_after (c.Update id user_type body) q before = before || id == q
 is_live_after (c.Delete id) q before = if id == q then false else before
 is_live_after _ q before = before
 
 -- refusals 6 and 7, where it is known whether the id is live
 abbrev pub id_refused : Bool → Command → Option Refusal
 id_refused is_live (c.Add id user_type body) = if is_live then Some (r.AlreadyLive id) else None
+id_refused is_live (c.Update id user_type body) = if is_live then None else Some (r.NoRecord id)
 id_refused is_live (c.Delete id) = if is_live then None else Some (r.NoRecord id)
 id_refused is_live _ = None
 
@@ -174,11 +229,11 @@ id_refused is_live _ = None
 abbrev pub full : Config → ℕ → Command → Option Refusal
 full config end command = elim (record_of command 0) [ None ↦ None | Some rec ↦ (if nat_lt (config.file_size - end) (len_of rec) then Some (r.FileFull (len_of rec) (config.file_size - end)) else None) ]
 
--- the refusal of an add or delete where the last append ends at `end`
+-- the refusal of a command of no transaction where the last append ends at `end`
 abbrev pub refused : Config → Bool → ℕ → Command → Option Refusal
 refused config is_live end command = first_some (too_large config command ∷ id_refused is_live command ∷ full config end command ∷ [])
 
--- a refusal that depends on the command, of an engine that takes adds and deletes
+-- a refusal that depends on the command, of an engine that takes commands of no transaction
 abbrev pub IsCommandRefusal : Refusal → Type 0
 IsCommandRefusal (r.TooLarge len limit) = Unit {0}
 IsCommandRefusal (r.AlreadyLive id) = Unit {0}
@@ -186,9 +241,10 @@ IsCommandRefusal (r.NoRecord id) = Unit {0}
 IsCommandRefusal (r.FileFull len left) = Unit {0}
 IsCommandRefusal _ = ⊥
 
--- a refusal of a command: for the command, or since the engine is closed, or for want of memory
+-- a refusal of a command: for the command, or since the engine is closed, for a disk call, or for want of memory
 abbrev pub IsCommandAnswer : Refusal → Type 0
 IsCommandAnswer (r.Closed fault) = Unit {0}
+IsCommandAnswer (r.Disk call) = Unit {0}
 IsCommandAnswer r.NoMemory = Unit {0}
 IsCommandAnswer refusal = IsCommandRefusal refusal
 
@@ -204,17 +260,56 @@ is_noted (Err (r.Disk call)) = false
 is_noted (Err r.NoMemory) = false
 is_noted _ = true
 
--- The chronicle has one step more, with this answer, or is as it was.
+-- The chronicle has one step more, with this answer, or has none.
 pub record Notes (seat number : ℕ) (command : Command) (result : Result Reply Refusal) (old new : Option Lists) : Type 0 where
   pub placed : Option Placed
   pub is : new ≡ (if is_noted result then option_map (with_step (record { seat = seat; number = number; command = command; answer = answer_of result; placed = placed })) old else old)
 
--- ---- other calls
+-- the reply to a command of no transaction that is accepted behind so many appends
+abbrev pub reply_to : ℕ → Command → Reply
+reply_to appended c.Flush = Durable appended
+reply_to appended _ = Appended appended
 
--- a refusal for a disk call comes only where the count of faults rose, and names the call that failed last
-abbrev pub HasCause : {T : Type 0} → Result T Refusal → Faults → Faults → Type 0
-HasCause (Err (r.Disk call)) old new = Rose old.0 new.0 × (new.1 ≡ Some call)
-HasCause _ old new = Unit {0}
+-- it asks for a flush
+abbrev pub is_flush : Command → Bool
+is_flush c.Flush = true
+is_flush _ = false
+
+-- the record doesn't fit behind the bytes that wait
+abbrev pub overflows : ℕ → ℕ → Option Record → Bool
+overflows capacity waiting None = false
+overflows capacity waiting (Some rec) = nat_lt capacity (waiting + len_of rec)
+
+-- whether a command that is accepted flushes first: it asks for that, or its record doesn't fit the buffer
+abbrev pub flushes : ℕ → ℕ → Command → Bool
+flushes capacity waiting command = is_flush command || overflows capacity waiting (record_of command 0)
+
+-- ---- what calls leave
+
+-- behind a flush all is durable and nothing waits
+abbrev pub flushed : {D C : Type 0} → EngineOf D C → EngineOf D C
+flushed e = record e { durable = e.appended; waiting = 0; since = None }
+
+-- one record more waits, where there is one
+abbrev pub with_record : {D C : Type 0} → Option Record → EngineOf D C → EngineOf D C
+with_record None e = e
+with_record (Some rec) e = record e { appended = e.appended + 1; waiting = e.waiting + len_of rec; since = begun e.clock e.since }
+
+-- behind a command that was accepted
+abbrev pub behind_command : {D C : Type 0} → Command → EngineOf D C → EngineOf D C
+behind_command command e = with_record (record_of command 0) (if flushes e.config.buffer_size e.waiting command then flushed e else e)
+
+-- the clock never goes back
+abbrev pub at_clock : {D C : Type 0} → ℕ → EngineOf D C → EngineOf D C
+at_clock now e = record e { clock = max e.clock now }
+
+-- the buffer is due: its first record is at least the timeout old
+abbrev pub must_flush : {D C : Type 0} → EngineOf D C → Bool
+must_flush e = is_due e.clock e.config.buffer_timeout e.since
+
+-- behind a tick that was answered
+abbrev pub behind_tick : {D C : Type 0} → ℕ → EngineOf D C → EngineOf D C
+behind_tick now e = if must_flush (at_clock now e) then flushed (at_clock now e) else at_clock now e
 
 -- how many appends are durable behind a flush that was answered so
 abbrev pub durable_after : Result ℕ Refusal → ℕ → ℕ
@@ -226,13 +321,16 @@ abbrev pub closed_after : {T : Type 0} → Result T Refusal → Option DiskCall 
 closed_after (Err (r.Disk call)) closed = Some call
 closed_after _ closed = closed
 
--- whether a flush made something durable
-abbrev pub is_flushed : Result ℕ Refusal → ℕ → ℕ → Bool
-is_flushed result appended durable = is_ok result && not (durable == appended)
-
 -- the chronicle behind a flush: one receipt more, of all appends at this moment, where something became durable
 abbrev pub receipted : Bool → ℕ → ℕ → Option Lists → Option Lists
-receipted flushed appended moment lists = if flushed then option_map (with_receipt appended moment) lists else lists
+receipted something appended moment lists = if something then option_map (with_receipt appended moment) lists else lists
+
+-- a refusal for a disk call comes only where the count of faults rose, and names the call that failed last
+abbrev pub HasCause : {T : Type 0} → Result T Refusal → Faults → Faults → Type 0
+HasCause (Err (r.Disk call)) old new = Rose old.0 new.0 × (new.1 ≡ Some call)
+HasCause _ old new = Unit {0}
+
+-- ---- opening
 
 -- the lists of an opening that has begun: nothing was there, nothing is done, and one receipt of nothing
 pub record AreBegun (moment : ℕ) (l : Lists) : Type 0 where
@@ -258,12 +356,22 @@ HasCome config moment old new l =
     ((l.receipts ≡ []) × Leaves Unchanged Unchanged old new)
     ⊎ (AreBegun (counted moment) l × Leaves (Prepares temporary_name data_name config.file_size 74 (header_of config.user_version 1)) (Prepares temporary_name data_name config.file_size 74 (header_of config.user_version 1)) (option_map (noted listing fine) old) new)
 
--- a refusal of a flush: since the engine is closed, for a disk call, or for want of memory
+-- a refusal of a flush or a tick: since the engine is closed, for a disk call, or for want of memory
 abbrev pub IsFlushRefusal : Refusal → Type 0
 IsFlushRefusal (r.Closed fault) = Unit {0}
 IsFlushRefusal (r.Disk call) = Unit {0}
 IsFlushRefusal r.NoMemory = Unit {0}
 IsFlushRefusal _ = ⊥
+
+-- a disk's fault, as a refusal
+abbrev pub fault_refusal : DiskFault → Refusal
+fault_refusal (f.Disk call) = r.Disk call
+fault_refusal f.NoMemory = r.NoMemory
+
+-- the call after which an engine is closed behind a fault
+abbrev pub closed_by : DiskFault → Option DiskCall → Option DiskCall
+closed_by (f.Disk call) closed = Some call
+closed_by f.NoMemory closed = closed
 
 -- what an opening that failed leaves in the chronicle: no base and no step
 abbrev pub IsUnopened : Lists → Type 0

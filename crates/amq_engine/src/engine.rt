@@ -1,61 +1,60 @@
 //! The journal over one disk.
-ghost use Rattle.std.specs.Prelude.{◌≡◌, ◌⊎◌, ◌↔◌, ℕ, ◌+◌, ◌-◌, ◌^◌, ◌<◌, ◌≤◌, [], length, Option, None, Some, Ok, Err, IfSome, IsSome, IfOk, IfErr, OnOk, OnErr};
+ghost use Rattle.std.specs.Prelude.{◌≡◌, ◌⊎◌, ◌↔◌, ◌+◌, ◌<◌, ◌≤◌, ◌&&◌, max, false, if◌then◌else◌, [], length, None, Some, is_ok, is_some, Ok, Err, IfSome, IsSome, IfOk, IfErr, OnOk, OnErr};
 ghost use Rattle.amq_model.specs.Configs.{IsConfig};
 ghost use Rattle.amq_model.specs.Calls.{counted};
 ghost use Rattle.amq_model.specs.Leaves.{Told};
-ghost use Rattle.amq_model.specs.Plain.{IsAddOrDelete};
-ghost use Rattle.amq_model.specs.Legal.{AreLegal};
+ghost use Rattle.amq_model.specs.Plain.{IsPlainCommand};
 ghost use Rattle.amq_model.specs.declared.refusal.DiskCall.{DiskCall};
 ghost use Rattle.amq_model.specs.Answers.{history_of};
+ghost use Rattle.amq_buffer.specs.Buffered.{is_due};
 ghost use Rattle.amq_engine.specs.OneFile.{IsEmpty, IsJournalFile};
-ghost use Rattle.amq_engine.specs.Receipts.{IsCrashSafe, IsLastCount};
-ghost use Rattle.amq_engine.specs.Engine.{Notes, IsCommandAnswer, IsBlank, IsUnopened, AreBegun, HasCome, HasOpenCause, HasCause, IsFlushRefusal, closed_after, durable_after, is_flushed, receipted, data_name};
+ghost use Rattle.amq_engine.specs.Receipts.{IsCrashSafe};
+ghost use Rattle.amq_engine.specs.Engine.{Notes, IsCommandAnswer, IsCommandRefusal, IsChronicle, IsBlank, IsUnopened, AreBegun, HasCome, HasOpenCause, HasCause, IsFlushRefusal, closed_after, durable_after, fault_refusal, closed_by, receipted, reply_to, flushes, flushed, behind_command, behind_tick, must_flush, at_clock, data_name};
 
 use crate::chronicle::Chronicle;
-use crate::keep::{keep, refusal_of};
-use crate::opening::{DATA_FILE, begin};
-use crate::put::put;
+use crate::opening::begin;
+use crate::plain::{change_live, refusal_of, room_for};
+use crate::tail::{Tail, put_record, ready, write_out};
+use amq_buffer::TimedBuffer;
 use amq_io::{Disk, DiskFault};
 use amq_model::{
-    Answer, Command, Config, DiskCall, Items, LoadState, OpenFault, Placed, Refusal, Reply, Step,
+    Answer, Command, Config, DiskCall, Items, LoadState, OpenFault, Refusal, Reply, Step,
 };
 use std::alloc::Global;
-use std::collections::BTreeSet;
+use std::collections::HashSet;
 use std::marker::Model;
 
 /// Where the first record of a file stands.
 const FIRST_PLACE: u64 = 16;
 
-/// The id of the one file.
-const FILE_ID: u64 = 1;
-
 /// The journal over one disk, owned by one thread.
 ///
-/// Until it moves to further files it has one, takes adds and deletes, and keeps one record that isn't
-/// durable.
+/// Until it moves to further files it has one, and takes commands of no transaction. Appends wait in a
+/// buffer until they are flushed: when that is asked for, when the buffer has no room for the next one,
+/// or when the first of them is as old as the buffer's timeout.
 pub struct Engine<D: Disk, C: Chronicle> {
     alloc: Global,
     disk: D,
     chronicle: C,
     config: Config,
-    live: BTreeSet<u64>,
-    buffer: Vec<u8>,
-    end: u64,
-    appended: u64,
-    durable: u64,
+    live: HashSet<u64>,
+    tail: Tail,
+    clock: u64,
     closed: Option<DiskCall>,
 }
 
 impl<D: Disk, C: Chronicle> Model for Engine<D, C> {
+    ghost use Rattle.std.specs.Prelude.{◌==◌, length};
+    ghost use Rattle.std.specs.HashSet.{contains};
     ghost use Rattle.amq_engine.specs.Engine.{EngineOf, engine_code, IsValid};
 
     ghost Value = { EngineOf D C };
 
     ghost coded = { engine_code D.code C.code };
 
-    ghost view = { λ e. record { disk = e.disk; chronicle = e.chronicle; config = e.config; appended = e.appended; durable = e.durable; closed = e.closed } };
+    ghost view = { λ e. record { disk = e.disk; chronicle = e.chronicle; config = e.config; appended = e.tail.appended; durable = e.tail.durable; waiting = length e.tail.buffer.bytes; since = e.tail.buffer.since; clock = e.clock; closed = e.closed } };
 
-    ghost invariant = { λ e. IsValid (D.past e.disk) (D.moment e.disk) (C.lists e.chronicle) (C.receipt_room e.chronicle) e.config e.live e.buffer.items e.end e.appended e.durable };
+    ghost invariant = { λ e. IsValid (D.past e.disk) (D.moment e.disk) (C.lists e.chronicle) (C.receipt_room e.chronicle) e.config (contains (◌==◌) e.live) e.tail };
 }
 
 /// Why a journal wasn't opened, with its disk and its chronicle.
@@ -70,14 +69,14 @@ impl<D: Disk, C: Chronicle> Engine<D, C> {
     pub fn appended(&self) -> u64
         ensures { result ≡ self.now.appended }
     {
-        self.appended
+        self.tail.appended
     }
 
     /// How many of the appends are durable.
     pub fn durable(&self) -> u64
         ensures { result ≡ self.now.durable }
     {
-        self.durable
+        self.tail.durable
     }
 
     /// Opens a journal in an empty directory.
@@ -94,7 +93,7 @@ impl<D: Disk, C: Chronicle> Engine<D, C> {
     ) -> Result<(Engine<D, C>, LoadState), OpenFailed<D, C>>
         requires config { IsConfig config }
         requires blank { IfSome (C.lists chronicle) IsBlank }
-        ensures opened { IfOk result (λ e. (e.0.config ≡ config) × (e.0.appended ≡ 0) × (e.0.durable ≡ 0) × (e.0.closed ≡ None)) }
+        ensures opened { IfOk result (λ e. (e.0.config ≡ config) × (e.0.appended ≡ 0) × (e.0.durable ≡ 0) × (e.0.waiting ≡ 0) × (e.0.since ≡ None) × (e.0.clock ≡ 0) × (e.0.closed ≡ None)) }
         ensures state { IfOk result (λ e. e.1 ≡ record { live = []; in_doubt = [] }) }
         ensures lists { IfOk result (λ e. IfSome (C.lists e.0.chronicle) (AreBegun (counted (D.moment disk)))) }
         ensures empty { OnOk result (Told (D.past disk) IsEmpty) }
@@ -104,67 +103,82 @@ impl<D: Disk, C: Chronicle> Engine<D, C> {
         ensures failed_later { IfErr result (λ e. (D.faults disk).0 ≤ (D.faults e.disk).0) }
 
         // Each receipt is kept, also where the opening failed behind the first.
-        ensures crash_safe { IfOk result (λ e. IfSome (C.lists e.0.chronicle) (IsCrashSafe (D.past e.0.disk) (D.moment e.0.disk) config.user_version)) }
         ensures failed_safe { IfErr result (λ e. IfSome (C.lists e.chronicle) (IsCrashSafe (D.past e.disk) (D.moment e.disk) config.user_version)) }
         ensures failed_empty { IfErr result (λ e. IfSome (C.lists e.chronicle) (λ l. (l.receipts ≡ []) ⊎ Told (D.past disk) IsEmpty)) }
+        ensures chronicle { IfOk result (λ e. IfSome (C.lists e.0.chronicle) (IsChronicle (D.past e.0.disk) (D.moment e.0.disk) config 0 0)) }
         ensures come { IfOk result (λ e. IfSome (C.lists e.0.chronicle) (HasCome config (D.moment disk) (D.past disk) (D.past e.0.disk))) }
         ensures failed_come { IfErr result (λ e. IfSome (C.lists e.chronicle) (HasCome config (D.moment disk) (D.past disk) (D.past e.disk))) }
     {
-        match begin(alloc, &mut disk, &mut chronicle, &config) {
-            Ok(()) => {
-                let state = LoadState {
-                    live: Items::of(Vec::new(alloc)),
-                    in_doubt: Items::of(Vec::new(alloc)),
-                };
-                let engine = Engine {
-                    alloc,
+        let buffer = match TimedBuffer::new(alloc, config.buffer_size, config.buffer_timeout) {
+            Ok(buffer) => buffer,
+            Err(_) => {
+                return Err(OpenFailed {
                     disk,
                     chronicle,
-                    config,
-                    live: BTreeSet::new(alloc),
-                    buffer: Vec::new(alloc),
-                    end: FIRST_PLACE,
-                    appended: 0,
-                    durable: 0,
-                    closed: None,
-                };
-                Ok((engine, state))
+                    fault: OpenFault::NoMemory,
+                });
             }
-            Err(fault) => Err(OpenFailed {
+        };
+        if let Err(fault) = begin(alloc, &mut disk, &mut chronicle, &config) {
+            return Err(OpenFailed {
                 disk,
                 chronicle,
                 fault,
-            }),
+            });
         }
+        let state = LoadState {
+            live: Items::of(Vec::new(alloc)),
+            in_doubt: Items::of(Vec::new(alloc)),
+        };
+        let engine = Engine {
+            alloc,
+            disk,
+            chronicle,
+            config,
+            live: HashSet::new(alloc),
+            tail: Tail {
+                buffer,
+                end: FIRST_PLACE,
+                appended: 0,
+                durable: 0,
+            },
+            clock: 0,
+            closed: None,
+        };
+        Ok((engine, state))
     }
 
-    /// Answers an add or delete, and keeps its record until the next `flush`. It makes no disk call.
+    /// Answers a command of no transaction.
     ///
-    /// The first refusal of `Closed`, `TooLarge`, `AlreadyLive`, `NoRecord` and `FileFull` that holds
-    /// is the answer. After `NoMemory` the journal is as it was, and the command can be given again.
+    /// Its record waits in the buffer until a flush; where it doesn't fit there, what waits is flushed
+    /// first. The first refusal of `Closed`, `TooLarge`, `AlreadyLive`, `NoRecord` and `FileFull` that
+    /// holds is the answer, before any disk call. After `NoMemory` the journal is as it was, and the
+    /// command can be given again.
     pub fn command(&mut self, seat: u32, number: u64, command: Command) -> Result<Reply, Refusal>
-        requires kind { IsAddOrDelete command }
+        requires kind { IsPlainCommand command }
         requires producer { 0 < seat }
-        requires flushed { (self.old.durable ≡ self.old.appended) ⊎ IsSome self.old.closed }
-        ensures noted { Notes seat number command result (C.lists self.old.chronicle) (C.lists self.new.chronicle) }
-        ensures legal { IfSome (C.lists self.new.chronicle) (λ l. AreLegal l.base l.steps self.new.config) }
+        ensures noted { Notes seat number command result (receipted (is_ok result && flushes self.old.config.buffer_size self.old.waiting command && is_some self.old.since) self.old.appended (D.moment self.new.disk) (C.lists self.old.chronicle)) (C.lists self.new.chronicle) }
+        ensures reply { IfOk result (λ reply. reply ≡ reply_to self.old.appended command) }
+        ensures ok { OnOk result (self.new ≡ record (behind_command command self.old) { disk = self.new.disk; chronicle = self.new.chronicle }) }
+        ensures err { OnErr result (self.new ≡ record self.old { disk = self.new.disk; chronicle = self.new.chronicle; closed = closed_after result self.old.closed }) }
         ensures answers { IfErr result IsCommandAnswer }
-        ensures reply { IfOk result (λ reply. reply ≡ Reply.Appended self.old.appended) }
-        ensures ok { OnOk result (self.new.appended ≡ self.old.appended + 1) }
-        ensures err { OnErr result (self.new.appended ≡ self.old.appended) }
-        ensures same { self.new ≡ record self.old { chronicle = self.new.chronicle; appended = self.new.appended } }
+        ensures refused { IfErr result (λ refusal. IsCommandRefusal refusal → self.new.disk ≡ self.old.disk) }
+        ensures idle { (flushes self.old.config.buffer_size self.old.waiting command ≡ false) ⊎ IsSome self.old.closed → self.new.disk ≡ self.old.disk }
+        ensures calls { D.moment self.new.disk ≤ D.moment self.old.disk + 2 }
         ensures closed { (call : DiskCall) → (result ≡ Err (Refusal.Closed call)) ↔ (self.old.closed ≡ Some call) }
-        ensures history { IfSome (C.lists self.new.chronicle) (λ l. self.new.appended ≡ length (history_of l.steps)) }
-        ensures crash_safe { IfSome (C.lists self.new.chronicle) (IsCrashSafe (D.past self.new.disk) (D.moment self.new.disk) self.new.config.user_version) }
-        ensures last { IfSome (C.lists self.new.chronicle) (λ l. IsLastCount self.new.durable l.receipts) }
+        ensures cause { HasCause result (D.faults self.old.disk) (D.faults self.new.disk) }
+        ensures later { (D.faults self.old.disk).0 ≤ (D.faults self.new.disk).0 }
+        ensures chronicle { IfSome (C.lists self.new.chronicle) (IsChronicle (D.past self.new.disk) (D.moment self.new.disk) self.new.config self.new.appended self.new.durable) }
     {
         if let Some(fault) = self.closed {
             return Err(Refusal::Closed { fault });
         }
-        if self.chronicle.room().is_err() {
-            return Err(Refusal::NoMemory);
-        }
-        if let Some(refusal) = refusal_of(&self.config, &self.live, self.end, &command) {
+        let rec = match room_for(self.alloc, &mut self.chronicle, &mut self.live, &command) {
+            Ok(rec) => rec,
+            Err(_) => return Err(Refusal::NoMemory),
+        };
+        let end = self.tail.end + self.tail.buffer.bytes().len() as u64;
+        if let Some(refusal) = refusal_of(&self.config, &self.live, end, &command, &rec) {
             self.chronicle.step(Step {
                 seat,
                 number,
@@ -174,86 +188,83 @@ impl<D: Disk, C: Chronicle> Engine<D, C> {
             });
             return Err(refusal);
         }
-        let rec = match keep(self.alloc, &mut self.live, &mut self.buffer, &command) {
-            Ok(rec) => rec,
-            Err(_) => return Err(Refusal::NoMemory),
-        };
-        let reply = Reply::Appended {
-            place: self.appended,
-        };
+        if let Err(fault) = ready(&mut self.disk, &mut self.chronicle, &mut self.tail, &rec) {
+            return Err(close_after(&mut self.closed, fault));
+        }
+        let (reply, placed) = put_record(&mut self.tail, self.clock, rec);
+        change_live(&mut self.live, &command);
         self.chronicle.step(Step {
             seat,
             number,
             command,
             answer: Answer::Done(reply),
-            placed: Some(Placed {
-                file: FILE_ID,
-                place: self.end,
-                compact: 0,
-                rec,
-            }),
+            placed,
         });
-        self.appended += 1;
         Ok(reply)
     }
 
-    /// Makes the kept record durable, with one write and one sync, and answers how many appends are.
-    /// Where none is kept it makes no disk call and notes no receipt.
+    /// Makes all appends durable, with one write and one sync, and answers how many there are. Where
+    /// all are, it makes no disk call and notes no receipt.
     pub fn flush(&mut self) -> Result<u64, Refusal>
-        ensures ok { IfOk result (λ count. (count ≡ self.old.appended) × (self.new.durable ≡ self.old.appended)) }
-        ensures err { OnErr result (self.new.durable ≡ self.old.durable) }
+        ensures count { IfOk result (λ count. count ≡ self.old.appended) }
+        ensures ok { OnOk result (self.new ≡ record (flushed self.old) { disk = self.new.disk; chronicle = self.new.chronicle }) }
+        ensures err { OnErr result (self.new ≡ record self.old { disk = self.new.disk; chronicle = self.new.chronicle; closed = closed_after result self.old.closed }) }
         ensures refusals { IfErr result IsFlushRefusal }
+        ensures receipt { C.lists self.new.chronicle ≡ receipted (is_ok result && is_some self.old.since) self.old.appended (D.moment self.new.disk) (C.lists self.old.chronicle) }
+        ensures idle { (self.old.since ≡ None) ⊎ IsSome self.old.closed → self.new.disk ≡ self.old.disk }
         ensures calls { D.moment self.new.disk ≤ D.moment self.old.disk + 2 }
-        ensures same { (self.new.appended ≡ self.old.appended) × (self.new.config ≡ self.old.config) }
-        ensures receipt { C.lists self.new.chronicle ≡ receipted (is_flushed result self.old.appended self.old.durable) self.old.appended (D.moment self.new.disk) (C.lists self.old.chronicle) }
-        ensures idle { (self.old.durable ≡ self.old.appended) ⊎ IsSome self.old.closed → self.new.disk ≡ self.old.disk }
-        ensures legal { IfSome (C.lists self.new.chronicle) (λ l. AreLegal l.base l.steps self.new.config) }
         ensures closed { (call : DiskCall) → (result ≡ Err (Refusal.Closed call)) ↔ (self.old.closed ≡ Some call) }
-        ensures closes { self.new.closed ≡ closed_after result self.old.closed }
         ensures cause { HasCause result (D.faults self.old.disk) (D.faults self.new.disk) }
         ensures later { (D.faults self.old.disk).0 ≤ (D.faults self.new.disk).0 }
-        ensures history { IfSome (C.lists self.new.chronicle) (λ l. self.new.appended ≡ length (history_of l.steps)) }
-        ensures crash_safe { IfSome (C.lists self.new.chronicle) (IsCrashSafe (D.past self.new.disk) (D.moment self.new.disk) self.new.config.user_version) }
-        ensures last { IfSome (C.lists self.new.chronicle) (λ l. IsLastCount self.new.durable l.receipts) }
+        ensures chronicle { IfSome (C.lists self.new.chronicle) (IsChronicle (D.past self.new.disk) (D.moment self.new.disk) self.new.config self.new.appended self.new.durable) }
     {
         if let Some(fault) = self.closed {
             return Err(Refusal::Closed { fault });
         }
-        if self.buffer.is_empty() {
-            return Ok(self.durable);
+        match write_out(&mut self.disk, &mut self.chronicle, &mut self.tail) {
+            Ok(()) => Ok(self.tail.durable),
+            Err(fault) => Err(close_after(&mut self.closed, fault)),
         }
-        match put(&mut self.disk, DATA_FILE, self.end, &self.buffer) {
-            Ok(()) => {
-                let moment = self.disk.moment();
-                self.end += self.buffer.len() as u64;
-                self.durable = self.appended;
-                self.buffer.clear();
-                self.chronicle.receipt(self.durable, moment);
-                Ok(self.durable)
-            }
-            Err(DiskFault::NoMemory) => Err(Refusal::NoMemory),
-            Err(DiskFault::Disk(call)) => {
-                self.closed = Some(call);
-                Err(Refusal::Disk { call })
-            }
+    }
+
+    /// Sets the clock to `now`, unless it is later, and flushes where the first append in the buffer is
+    /// then at least the buffer's timeout old. Answers how many appends are durable.
+    pub fn tick(&mut self, now: u64) -> Result<u64, Refusal>
+        ensures count { IfOk result (λ count. count ≡ self.new.durable) }
+        ensures ok { OnOk result (self.new ≡ record (behind_tick now self.old) { disk = self.new.disk; chronicle = self.new.chronicle }) }
+        ensures err { OnErr result (self.new ≡ record self.old { disk = self.new.disk; chronicle = self.new.chronicle; clock = self.new.clock; closed = closed_after result self.old.closed }) }
+        ensures clock { self.new.clock ≡ (if is_some self.old.closed then self.old.clock else max self.old.clock now) }
+        ensures refusals { IfErr result IsFlushRefusal }
+        ensures receipt { C.lists self.new.chronicle ≡ receipted (is_ok result && must_flush (at_clock now self.old)) self.old.appended (D.moment self.new.disk) (C.lists self.old.chronicle) }
+        ensures idle { (must_flush (at_clock now self.old) ≡ false) ⊎ IsSome self.old.closed → self.new.disk ≡ self.old.disk }
+        ensures calls { D.moment self.new.disk ≤ D.moment self.old.disk + 2 }
+        ensures closed { (call : DiskCall) → (result ≡ Err (Refusal.Closed call)) ↔ (self.old.closed ≡ Some call) }
+        ensures cause { HasCause result (D.faults self.old.disk) (D.faults self.new.disk) }
+        ensures later { (D.faults self.old.disk).0 ≤ (D.faults self.new.disk).0 }
+        ensures chronicle { IfSome (C.lists self.new.chronicle) (IsChronicle (D.past self.new.disk) (D.moment self.new.disk) self.new.config self.new.appended self.new.durable) }
+    {
+        if let Some(fault) = self.closed {
+            return Err(Refusal::Closed { fault });
         }
+        self.clock = self.clock.max(now);
+        if self.tail.buffer.due(self.clock) {
+            return self.flush();
+        }
+        Ok(self.tail.durable)
     }
 
     /// Flushes, and hands back the disk and the chronicle.
     pub fn close(mut self) -> (D, C, Result<u64, Refusal>)
-        ensures ok { IfOk result.2 (λ count. count ≡ self.appended) }
+        ensures count { IfOk result.2 (λ count. count ≡ self.appended) }
         ensures refusals { IfErr result.2 IsFlushRefusal }
-        ensures idle { (self.durable ≡ self.appended) ⊎ IsSome self.closed → result.0 ≡ self.disk }
+        ensures receipt { C.lists result.1 ≡ receipted (is_ok result.2 && is_some self.since) self.appended (D.moment result.0) (C.lists self.chronicle) }
+        ensures idle { (self.since ≡ None) ⊎ IsSome self.closed → result.0 ≡ self.disk }
         ensures calls { D.moment result.0 ≤ D.moment self.disk + 2 }
-        ensures receipt { C.lists result.1 ≡ receipted (is_flushed result.2 self.appended self.durable) self.appended (D.moment result.0) (C.lists self.chronicle) }
-        ensures content { OnOk result.2 (IfSome (C.lists result.1) (λ l. Told (D.past result.0) (IsJournalFile data_name self.config.user_version self.config.file_size (history_of l.steps)))) }
-        ensures legal { IfSome (C.lists result.1) (λ l. AreLegal l.base l.steps self.config) }
         ensures closed { (call : DiskCall) → (result.2 ≡ Err (Refusal.Closed call)) ↔ (self.closed ≡ Some call) }
         ensures cause { HasCause result.2 (D.faults self.disk) (D.faults result.0) }
         ensures later { (D.faults self.disk).0 ≤ (D.faults result.0).0 }
-        ensures history { IfSome (C.lists result.1) (λ l. self.appended ≡ length (history_of l.steps)) }
-        ensures crash_safe { IfSome (C.lists result.1) (IsCrashSafe (D.past result.0) (D.moment result.0) self.config.user_version) }
-        ensures last { IfSome (C.lists result.1) (λ l. IsLastCount (durable_after result.2 self.durable) l.receipts) }
+        ensures content { OnOk result.2 (IfSome (C.lists result.1) (λ l. Told (D.past result.0) (IsJournalFile data_name self.config.user_version self.config.file_size (history_of l.steps)))) }
+        ensures chronicle { IfSome (C.lists result.1) (IsChronicle (D.past result.0) (D.moment result.0) self.config self.appended (durable_after result.2 self.durable)) }
     {
         let outcome = self.flush();
         let Engine {
@@ -262,12 +273,24 @@ impl<D: Disk, C: Chronicle> Engine<D, C> {
             chronicle,
             config: _,
             live: _,
-            buffer: _,
-            end: _,
-            appended: _,
-            durable: _,
+            tail: _,
+            clock: _,
             closed: _,
         } = self;
         (disk, chronicle, outcome)
+    }
+}
+
+/// The refusal for a fault of the disk. A disk call that failed closes the engine.
+fn close_after(closed: &mut Option<DiskCall>, fault: DiskFault) -> Refusal
+    ensures refusal { result ≡ fault_refusal fault }
+    ensures closed { closed.new ≡ closed_by fault closed.old }
+{
+    match fault {
+        DiskFault::Disk(call) => {
+            *closed = Some(call);
+            Refusal::Disk { call }
+        }
+        DiskFault::NoMemory => Refusal::NoMemory,
     }
 }

@@ -1,20 +1,22 @@
 //! The journal: one engine over one disk, owned by one thread.
 //!
 //! `chronicle` has the trait through which an engine tells what it did, and the chronicles `Kept` and
-//! `Unkept`. `engine` has the engine itself: opening, commands, flushing, closing. Below it stand
-//! `prepare`, which makes a file that is durable before it has its name, `put`, which puts bytes
-//! behind the last and syncs them, `header`, the 16 bytes at a file's head, and `log`, a list with
-//! room made ahead.
+//! `Unkept`. `engine` has the engine itself: opening, commands, flushing, ticking, closing. Below it
+//! stand `plain`, what refuses a command of no transaction and what it does; `tail`, the end of the
+//! file in use with the buffer behind it; `opening` and `prepare`, which make a file that is durable
+//! before it has its name; `put`, which puts bytes behind the last and syncs them; `header`, the 16
+//! bytes at a file's head; and `log`, a list with room made ahead.
 #![tactic(auto)]
 
 mod chronicle;
 mod engine;
 mod header;
-mod keep;
 mod log;
 mod opening;
+mod plain;
 mod prepare;
 mod put;
+mod tail;
 
 pub use chronicle::{Chronicle, Kept, Receipted, Unkept};
 pub use engine::{Engine, OpenFailed};

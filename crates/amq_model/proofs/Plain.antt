@@ -18,7 +18,7 @@ use Rattle.amq_model.specs.declared.refusal.Refusal.{Refusal}
 use Rattle.amq_model.specs.declared.refusal.Refusal.TheVariants.{Held}
 use Rattle.amq_model.specs.Effect.{entry_of, live, remaining, in_effect, effect_of}
 use Rattle.amq_model.specs.Answers.{history_of, number_of, live_behind, in_view, holders, refusal, first_some, too_large, id_refusal}
-use Rattle.amq_model.specs.Plain.{IsPlain, IsAddOrDelete}
+use Rattle.amq_model.specs.Plain.{IsPlain, IsPlainCommand}
 use Rattle.amq_model.proofs.EffectGrows.{effect_grows}
 use Rattle.amq_model.proofs.Grows.{any-snoc, kept_by, remaining-snoc}
 
@@ -116,12 +116,12 @@ unfolding held_by
 unheld steps id a b all = ap (λ (txs : List ℕ). first_some (a ∷ None ∷ held_by id txs ∷ b ∷ None ∷ [])) (nobody steps id (no_numbers (history_of steps) all)) ∙ shorter a b
 
 -- with no transaction, a plain command is refused for its length or its id alone
-pub plain_refusal : (steps : List Step) (config : Config) (command : Command) → IsAddOrDelete command → All (λ p. IsPlain p.rec) (history_of steps)
+pub plain_refusal : (steps : List Step) (config : Config) (command : Command) → IsPlainCommand command → All (λ p. IsPlain p.rec) (history_of steps)
     → refusal [] steps config command ≡ first_some (too_large config command ∷ id_refusal [] steps command ∷ [])
 unfolding held_by
 plain_refusal steps config (c.Add id user_type body) is all = unheld steps id (too_large config (c.Add id user_type body)) (id_refusal [] steps (c.Add id user_type body)) all
 plain_refusal steps config (c.Delete id) is all = unheld steps id (too_large config (c.Delete id)) (id_refusal [] steps (c.Delete id)) all
-plain_refusal steps config (c.Update id user_type body) is all = absurd is
+plain_refusal steps config (c.Update id user_type body) is all = unheld steps id (too_large config (c.Update id user_type body)) (id_refusal [] steps (c.Update id user_type body)) all
 plain_refusal steps config c.Begin is all = absurd is
 plain_refusal steps config (c.AddTx tx id user_type body) is all = absurd is
 plain_refusal steps config (c.UpdateTx tx id user_type body) is all = absurd is
@@ -129,4 +129,4 @@ plain_refusal steps config (c.DeleteTx tx id body) is all = absurd is
 plain_refusal steps config (c.Prepare tx extra) is all = absurd is
 plain_refusal steps config (c.Commit tx) is all = absurd is
 plain_refusal steps config (c.Rollback tx) is all = absurd is
-plain_refusal steps config c.Flush is all = absurd is
+plain_refusal steps config c.Flush is all = refl

@@ -16,8 +16,10 @@ IsPlain (r.Prepare tx count extra) = ⊥
 IsPlain (r.Commit tx count) = ⊥
 IsPlain (r.Rollback tx) = ⊥
 
--- an add, or a delete outside transactions
-abbrev pub IsAddOrDelete : Command → Type 0
-IsAddOrDelete (c.Add id user_type body) = Unit {0}
-IsAddOrDelete (c.Delete id) = Unit {0}
-IsAddOrDelete _ = ⊥
+-- a command of no transaction
+abbrev pub IsPlainCommand : Command → Type 0
+IsPlainCommand (c.Add id user_type body) = Unit {0}
+IsPlainCommand (c.Update id user_type body) = Unit {0}
+IsPlainCommand (c.Delete id) = Unit {0}
+IsPlainCommand c.Flush = Unit {0}
+IsPlainCommand _ = ⊥

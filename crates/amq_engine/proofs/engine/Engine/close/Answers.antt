@@ -1,19 +1,20 @@
 use Rattle.std.proofs.Common.{◌≡◌, sym, ap, subst, ◌∙◌}
-use Rattle.std.specs.Prelude.{IfSome, OnOk}
+use Rattle.std.specs.Prelude.{IfSome, OnOk, ◌==◌}
+use Rattle.std.specs.HashSet.{contains}
 use Rattle.amq_model.specs.declared.config.Config.{Config}
 use Rattle.amq_model.specs.Answers.{history_of}
 use Rattle.amq_model.specs.Leaves.{Told}
 use Rattle.amq_engine.specs.OneFile.{IsJournalFile}
 use Rattle.amq_engine.specs.Engine.{data_name}
-use Rattle.amq_engine.proofs.Closed.{when_done, sound_journal}
+use Rattle.amq_engine.proofs.Closed.{when_ok, sound_journal}
 use Rattle.amq_engine.proofs.engine.Engine.close.Goals as goal
 
 pub returns-clause-content : goal.returns-clause-content
 returns-clause-content g c =
     let e = c.self.inside in
-    let config : e.config ≡ c.args.self.config = ap (λ v. v.config) c.self.view_is ∙ c.flush-outcome.ensures.same.1 in
-    let P : Config → Type 0 = λ k. OnOk c.flush-outcome.result (IfSome (g.C.Chronicle.lists e.chronicle) (λ l. Told (g.D.Disk.past e.disk) (IsJournalFile data_name k.user_version k.file_size (history_of l.steps)))) in
-    subst P config (when_done c.flush-outcome.result _ _
-    (λ count done. sound_journal (g.D.Disk.past e.disk) (g.C.Chronicle.lists e.chronicle) (g.C.Chronicle.receipt_room e.chronicle) e.config e.live e.buffer.items e.end e.appended e.durable c.self.invariant.sound
-    (ap (λ v. v.durable) c.self.view_is ∙ done.1 ∙ sym c.flush-outcome.ensures.same.0 ∙ sym (ap (λ v. v.appended) c.self.view_is)))
-    c.flush-outcome.ensures.ok)
+    let P : Config → Type 0 = λ k. IfSome (g.C.Chronicle.lists e.chronicle) (λ l. Told (g.D.Disk.past e.disk) (IsJournalFile data_name k.user_version k.file_size (history_of l.steps))) in
+    when_ok c.flush-outcome.result _ _
+    (λ done. subst P (ap (λ v. v.config) c.self.view_is ∙ ap (λ v. v.config) done)
+    (sound_journal (g.D.Disk.past e.disk) (g.C.Chronicle.lists e.chronicle) (g.C.Chronicle.receipt_room e.chronicle) e.config (contains (◌==◌) e.live) e.tail c.self.invariant.sound
+    (ap (λ v. v.durable) c.self.view_is ∙ ap (λ v. v.durable) done ∙ sym (ap (λ v. v.appended) done) ∙ sym (ap (λ v. v.appended) c.self.view_is))))
+    c.flush-outcome.ensures.ok
