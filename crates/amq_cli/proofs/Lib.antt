@@ -1,6 +1,8 @@
 pub mod Pieces
-pub mod Noted
-pub mod Played
-pub mod Lines
+pub mod Playing
+pub mod Answering
+pub mod Ending
+pub mod Running
+pub mod Outputs
 pub mod Reloading
 pub mod Recovering

@@ -5,12 +5,13 @@ use Rattle.std.specs.Ordering.{eq_by_cmp, nat_cmp}
 use Rattle.std.specs.Cmp.Lexicographic.{slice_cmp}
 use Rattle.std.specs.FinMap as finite
 use Rattle.std.proofs.lemmas.Bool.{false≢true}
-use Rattle.amq_model.specs.declared.command.Command.{Command}
+use Rattle.amq_model.specs.declared.script.Line.{Line}
+use Rattle.amq_model.specs.declared.config.Config.{Config}
+use Rattle.amq_model.specs.Configs.{IsConfig}
 use Rattle.amq_model.specs.declared.history.Step.{Step}
 use Rattle.amq_model.specs.declared.record.Placed.{Placed}
 use Rattle.amq_model.specs.declared.state.LoadState.{LoadState}
 use Rattle.amq_model.specs.Answers.{history_of}
-use Rattle.amq_model.specs.RecordAt.{long, word}
 use Rattle.amq_model.specs.Scan.{IsScan}
 use Rattle.amq_model.specs.Calls.{Past, content}
 use Rattle.amq_model.specs.Directory.{placed, Loads, IsRead, SaysControl}
@@ -18,8 +19,7 @@ use Rattle.amq_model.specs.Names.{is_data}
 use Rattle.amq_model.specs.Effect.{result_of}
 use Rattle.amq_model.specs.Files.{FileName, Files, File, Image, IsReading}
 use Rattle.amq_model.specs.Leaves.{Told, HasBytes, IsThere}
-use Rattle.amq_model.specs.Texts.{report_of}
-use Rattle.amq_model.proofs.Alone.{IsHeader, one_loads}
+use Rattle.amq_model.proofs.Alone.{one_loads}
 use Rattle.amq_model.proofs.Lookups.{same_self, same_true}
 use Rattle.amq_record.specs.declared.spot.Spot as code
 use Rattle.amq_record.specs.Refs.{spot_of}
@@ -29,7 +29,9 @@ use Rattle.amq_engine.specs.Engine.{data_name}
 use Rattle.amq_engine.specs.OneFile.{IsEmpty, IsJournalFile, header_of}
 use Rattle.amq_cli.specs.Loaded.{IsLoaded, HasRecords, content_of}
 use Rattle.amq_cli.specs.Offline.{HasBase, LoadsTo, HasRunOn, IsReported}
-use Rattle.amq_cli.specs.Replay.{IsReplayed}
+use Rattle.amq_engine.specs.declared.chronicle.Receipted.{Receipted}
+use Rattle.amq_engine.proofs.Recovering.{header_is}
+use Rattle.amq_cli.specs.Replay.{HasReplayed}
 use Rattle.amq_model.specs.declared.refusal.Refusal.{Refusal}
 use Rattle.amq_model.specs.declared.refusal.Refusal.TheVariants as r
 use Rattle.amq_cli.specs.Statuses.{status_of}
@@ -67,20 +69,17 @@ one_reading n file s there only = λ q. finite.get-from_sorted (slice_cmp nat_cm
     by q true is = ap (λ (b : Bool). cond b (Some file.bytes) None) is ∙ sym (ap (option_map (λ (f : File). f.bytes)) (ap (finite.get s) (same_true q n is) ∙ there))
     by q false is = ap (λ (b : Bool). cond b (Some file.bytes) None) is ∙ sym (ap (option_map (λ (f : File). f.bytes)) (only q (λ e. false≢true (sym is ∙ ap (λ q. eq_by_cmp (slice_cmp nat_cmp) q n) e ∙ same_self n))))
 
-headed : IsHeader (header_of 0 1) 1 0
-unfolding long word
-headed = record { size = refl; version = refl; user_version = refl; id = refl; low = refl }
-
 data_named : IsTrue (is_data data_name)
 data_named = refl
 
-pub loads_to : (base : List Placed) (steps : List Step) (state : LoadState) (s : Files) → base ≡ [] → IsJournalFile data_name 0 10485760 (history_of steps) s → state ≡ result_of (history_of steps) → LoadsTo base steps state s
-loads_to base steps state s none j is =
-    let loads : Loads ((data_name, j.file.bytes) ∷ []) 0 (result_of (map (placed 1) j.spots)) = one_loads data_name (header_of 0 1) j.file.bytes 1 0 j.spots data_named refl headed j.headed (omega (arith, j.size)) j.scan in
+pub loads_to : (config : Config) (base : List Placed) (steps : List Step) (state : LoadState) (s : Files) → IsConfig config → base ≡ [] → IsJournalFile data_name config.user_version config.file_size (history_of steps) s → state ≡ result_of (history_of steps) → LoadsTo config.user_version base steps state s
+loads_to config base steps state s ranges none j is =
+    let loads : Loads ((data_name, j.file.bytes) ∷ []) config.user_version (result_of (map (placed 1) j.spots)) =
+    one_loads data_name (header_of config.user_version 1) j.file.bytes 1 config.user_version j.spots data_named refl (header_is config (omega (arith, ranges.user_version))) j.headed (omega (arith, j.size, ranges.file_size_most)) j.scan in
     record {
       image = one_image data_name j.file.bytes;
       reading = one_reading data_name j.file s j.there j.only;
-      loads = subst (λ (es : List (FileName × List ℕ)). Loads es 0 state) (sym (one_entries data_name j.file.bytes)) (subst (λ (st : LoadState). Loads ((data_name, j.file.bytes) ∷ []) 0 st) (sym (is ∙ ap result_of j.is)) loads);
+      loads = subst (λ (es : List (FileName × List ℕ)). Loads es config.user_version state) (sym (one_entries data_name j.file.bytes)) (subst (λ (st : LoadState). Loads ((data_name, j.file.bytes) ∷ []) config.user_version st) (sym (is ∙ ap result_of j.is)) loads);
       is = is ∙ sym (ap (λ (b : List Placed). result_of (b ++ history_of steps)) none);
     }
 
@@ -109,20 +108,22 @@ pub is_there : (past : Option Past) (user_version len : ℕ) (history : List Pla
 is_there None user_version len history told = tt
 is_there (Some p) user_version len history told = told_there (content p.start p.calls) user_version len history told
 
-loaded_now : (base : List Placed) (steps : List Step) (state : LoadState) (old new : Option Past) → base ≡ [] → content_of new ≡ content_of old → Told old (IsJournalFile data_name 0 10485760 (history_of steps)) → Told old (λ s. (user_version : ℕ) (len : ℕ) → IsLoaded user_version len state s) → Told new (LoadsTo base steps state)
-loaded_now base steps state old None none same file loaded = tt
-loaded_now base steps state None (Some q) none same file loaded = absurd (let e : Some (content q.start q.calls) ≡ None = same in cc)
-loaded_now base steps state (Some p) (Some q) none same file loaded =
+loaded_now : (config : Config) (base : List Placed) (steps : List Step) (state : LoadState) (old new : Option Past) → IsConfig config → base ≡ [] → content_of new ≡ content_of old → Told old (IsJournalFile data_name config.user_version config.file_size (history_of steps))
+    → Told old (λ s. (user_version : ℕ) (len : ℕ) → IsLoaded user_version len state s) → Told new (LoadsTo config.user_version base steps state)
+loaded_now config base steps state old None ranges none same file loaded = tt
+loaded_now config base steps state None (Some q) ranges none same file loaded = absurd (let e : Some (content q.start q.calls) ≡ None = same in cc)
+loaded_now config base steps state (Some p) (Some q) ranges none same file loaded =
     let here : content q.start q.calls ≡ content p.start p.calls = let e : Some (content q.start q.calls) ≡ Some (content p.start p.calls) = same in cc in
-    subst (LoadsTo base steps state) (sym here) (loads_to base steps state (content p.start p.calls) none file (loaded 0 10485760 (history_of steps) file))
+    subst (LoadsTo config.user_version base steps state) (sym here) (loads_to config base steps state (content p.start p.calls) ranges none file (loaded config.user_version config.file_size (history_of steps) file))
 
-pub has_run_on : (commands : List Command) (before after : List ℕ) (base : List Placed) (steps : List Step) (old new : Option Past) → IsReplayed commands steps before → base ≡ [] → Told old (IsJournalFile data_name 0 10485760 (history_of steps)) → IsReported before after old new → HasRunOn commands after new base steps
-has_run_on commands before after base steps old new replayed none file reported = record {
+pub has_run_on : (config : Config) (lines : List Line) (before after : List ℕ) (base : List Placed) (steps : List Step) (receipts : List Receipted) (old new : Option Past) → IsConfig config → HasReplayed config.buffer_timeout lines steps receipts before → base ≡ []
+    → Told old (IsJournalFile data_name config.user_version config.file_size (history_of steps)) → IsReported before after old new → HasRunOn config lines after new base steps receipts
+has_run_on config lines before after base steps receipts old new ranges replayed none file reported = record {
+  replies = before;
+  replayed = replayed;
   state = reported.state;
-  each = replayed.each;
-  numbered = replayed.numbered;
-  lines = reported.lines ∙ ap (λ (t : List ℕ). t ++ report_of reported.state) replayed.lines;
-  loaded = loaded_now base steps reported.state old new none reported.same file reported.loaded;
+  reported = reported.lines;
+  loaded = loaded_now config base steps reported.state old new ranges none reported.same file reported.loaded;
 }
 
 -- a refusal never ends a run with status 0

@@ -3,6 +3,7 @@ pub mod Statuses
 pub mod Input
 pub mod Output
 pub mod Replay
+pub mod Playing
 pub mod Script
 pub mod Loaded
 pub mod Offline

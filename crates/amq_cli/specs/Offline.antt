@@ -1,7 +1,7 @@
 -- What the program's commands leave.
-use Rattle.std.specs.Prelude.{◌≡◌, ◌⊎◌, ℕ, ◌<◌, Bool, true, false, List, ◌++◌, length, map, Option, None, option_map, IfSome}
+use Rattle.std.specs.Prelude.{◌≡◌, ◌⊎◌, ℕ, ◌<◌, Bool, true, false, List, [], ◌++◌, length, Option, None, Some, option_map, IfSome}
 use Rattle.std.specs.FinMap as finite
-use Rattle.amq_model.specs.declared.command.Command.{Command}
+use Rattle.amq_model.specs.declared.script.Line.{Line}
 use Rattle.amq_model.specs.declared.config.Config.{Config}
 use Rattle.amq_model.specs.declared.directory.Control.{Control}
 use Rattle.amq_model.specs.declared.history.Step.{Step}
@@ -13,16 +13,20 @@ use Rattle.amq_model.specs.Directory.{IsRead, Loads}
 use Rattle.amq_model.specs.Effect.{result_of}
 use Rattle.amq_model.specs.Files.{Files, Image, IsReading}
 use Rattle.amq_model.specs.Leaves.{Told}
-use Rattle.amq_model.specs.Texts.{report_of}
+use Rattle.amq_model.specs.Texts.{report_of, refusal_line}
 use Rattle.amq_io.specs.Cause.{Rose, Faults}
 use Rattle.amq_engine.specs.OneFile.{IsEmpty}
 use Rattle.amq_engine.specs.Lists.{Lists}
 use Rattle.amq_engine.specs.declared.chronicle.Kept.{Kept}
+use Rattle.amq_engine.specs.declared.chronicle.Receipted.{Receipted}
+use Rattle.amq_model.specs.declared.refusal.DiskCall.{DiskCall}
+use Rattle.amq_model.specs.declared.refusal.Refusal.TheVariants as r
 use Rattle.amq_cli.specs.declared.status.Status.{Status}
 use Rattle.amq_cli.specs.declared.status.Status.TheVariants as s
 use Rattle.amq_cli.specs.declared.status.Unbuilt.TheVariants as u
 use Rattle.amq_cli.specs.Loaded.{IsLoaded, content_of}
-use Rattle.amq_cli.specs.Replay.{AreNumbered, reply_lines, script_commands}
+use Rattle.amq_cli.specs.Output.{IsPartWritten}
+use Rattle.amq_cli.specs.Replay.{HasReplayed, HasEnded, script_lines}
 use Rattle.amq_cli.specs.Script.{IsSaid, input_limit}
 
 -- the configuration of a broker that sets nothing
@@ -43,27 +47,27 @@ pub record HasBase (base : List Placed) (s : Files) : Type 0 where
   pub read : IsRead (finite.entries image) control base
 
 -- it loads, to the result of the base and then the history of the steps, and this is that state
-pub record LoadsTo (base : List Placed) (steps : List Step) (state : LoadState) (s : Files) : Type 0 where
+pub record LoadsTo (user_version : ℕ) (base : List Placed) (steps : List Step) (state : LoadState) (s : Files) : Type 0 where
   pub image : Image
   pub reading : IsReading s image
-  pub loads : Loads (finite.entries image) defaults.user_version state
+  pub loads : Loads (finite.entries image) user_version state
   pub is : state ≡ result_of (base ++ history_of steps)
 
--- ---- a run of commands on a disk
+-- ---- a run of lines on a disk
 
--- The steps are those of the commands, in order, each once. The text has their lines and then the report of what the directory loads to.
-pub record HasRunOn (commands : List Command) (text : List ℕ) (past : Option Past) (base : List Placed) (steps : List Step) : Type 0 where
+-- All lines were answered, and the text has their lines and then the report of what the directory loads to.
+pub record HasRunOn (config : Config) (lines : List Line) (text : List ℕ) (past : Option Past) (base : List Placed) (steps : List Step) (receipts : List Receipted) : Type 0 where
+  pub replies : List ℕ
+  pub replayed : HasReplayed config.buffer_timeout lines steps receipts replies
   pub state : LoadState
-  pub each : map (λ s. s.command) steps ≡ commands
-  pub numbered : AreNumbered 1 steps
-  pub lines : text ≡ reply_lines steps ++ report_of state
-  pub loaded : Told past (LoadsTo base steps state)
+  pub reported : text ≡ replies ++ report_of state
+  pub loaded : Told past (LoadsTo config.user_version base steps state)
 
 -- the same of a run that began with an empty directory, whose base is therefore this
-pub record HasRun (commands : List Command) (text : List ℕ) (old new : Option Past) (base : List Placed) (steps : List Step) : Type 0 where
+pub record HasRun (config : Config) (lines : List Line) (text : List ℕ) (old new : Option Past) (base : List Placed) (steps : List Step) (receipts : List Receipted) : Type 0 where
   pub empty : Told old IsEmpty
   pub began : Told old (HasBase base)
-  pub ran : HasRunOn commands text new base steps
+  pub ran : HasRunOn config lines text new base steps receipts
 
 -- the report of what was loaded is added, and the directory is as it was
 pub record IsReported (before after : List ℕ) (old new : Option Past) : Type 0 where
@@ -84,6 +88,33 @@ abbrev pub HasRunCause : Status → Option Past → Option Past → Faults → F
 HasRunCause (s.NotBuilt u.Directory) old new was now = (content_of new ≡ content_of old) × Told old (λ s. IsEmpty s → ⊥)
 HasRunCause status old new was now = HasDiskCause status was now
 
+-- it is a report
+abbrev pub IsReport : List ℕ → Type 0
+IsReport ending = (state : LoadState) × (ending ≡ report_of state)
+
+-- it is the line of the disk call that failed last
+abbrev pub IsDiskLine : Faults → List ℕ → Type 0
+IsDiskLine faults ending = (call : DiskCall) × (faults.1 ≡ Some call) × (ending ≡ refusal_line (r.Disk call))
+
+-- what stands behind the lines of what was answered: a report, the line of a disk call that failed, or nothing
+abbrev pub IsEnding : Status → Faults → List ℕ → Type 0
+IsEnding s.Ok faults ending = IsReport ending
+IsEnding s.SinkFault faults ending = IsReport ending
+IsEnding s.DiskFault faults ending = (ending ≡ []) ⊎ IsDiskLine faults ending
+IsEnding s.NoMemory faults ending = (ending ≡ []) ⊎ IsDiskLine faults ending ⊎ IsReport ending
+IsEnding _ faults ending = ending ≡ []
+
+-- memory was short
+abbrev pub is_short : Status → Bool
+is_short s.NoMemory = true
+is_short _ = false
+
+-- the text of a run with this status, however it ended
+pub record HasText (timeout : ℕ) (status : Status) (lines : List Line) (faults : Faults) (steps : List Step) (receipts : List Receipted) (text : List ℕ) : Type 0 where
+  pub ending : List ℕ
+  pub ends : IsEnding status faults ending
+  pub ended : HasEnded timeout lines steps receipts text ending (is_short status)
+
 -- ---- the whole run
 
 -- the sink has taken this text more, where it tells
@@ -92,15 +123,24 @@ IsWritten text old new = new ≡ option_map (λ taken. taken ++ text) old
 
 -- a run ends as it would without a sink, but where the sink failed or had no memory
 abbrev pub IsEnd : Status → Status → ℕ → ℕ → Type 0
-IsEnd status outcome old new = (status ≡ outcome) ⊎ (status ≡ s.NoMemory) ⊎ ((status ≡ s.SinkFault) × Rose old new)
+IsEnd status outcome old new = (status ≡ outcome) ⊎ (status ≡ s.NoMemory) ⊎ ((status ≡ s.SinkFault) × (outcome ≡ s.Ok) × Rose old new)
 
--- What a run with status 0 has done: the source is read whole, its commands are run, and the sink has the text.
-pub record IsRun (left_old left_new : Option (List ℕ)) (past_old past_new : Option Past) (taken_old taken_new : Option (List ℕ)) (base : List Placed) (steps : List Step) : Type 0 where
-  pub commands : List Command
-  pub said : IsSaid commands left_old left_new
+-- What a run with status 0 has done: the source is read whole, its lines are answered, and the sink has the text. Where only the sink failed all is the same but for that.
+pub record IsRun (Writes : List ℕ → Option (List ℕ) → Option (List ℕ) → Type 0) (config : Config) (left_old left_new : Option (List ℕ)) (past_old past_new : Option Past) (taken_old taken_new : Option (List ℕ)) (base : List Placed) (steps : List Step) (receipts : List Receipted) : Type 0 where
+  pub lines : List Line
+  pub said : IsSaid lines left_old left_new
   pub text : List ℕ
-  pub ran : HasRun commands text past_old past_new base steps
-  pub written : IsWritten text taken_old taken_new
+  pub ran : HasRun config lines text past_old past_new base steps receipts
+  pub written : Writes text taken_old taken_new
+
+-- What was written, with every status: a front of the text of a run of the source's lines, and all of it unless the sink failed or memory was short. Where the script wasn't read there is no line.
+pub record IsOutput (timeout : ℕ) (status : Status) (left_old left_new : Option (List ℕ)) (faults : Faults) (sink_old sink_new : ℕ) (taken_old taken_new : Option (List ℕ)) (steps : List Step) (receipts : List Receipted) : Type 0 where
+  pub lines : List Line
+  pub said : (lines ≡ []) ⊎ IsSaid lines left_old left_new
+  pub text : List ℕ
+  pub has : HasText timeout status lines faults steps receipts text
+  pub part : IsPartWritten text taken_old taken_new
+  pub whole : IsWritten text taken_old taken_new ⊎ Rose sink_old sink_new ⊎ (is_short status ≡ true)
 
 -- Why a run ended so, by what the source had left, what the directory was, and how often calls had failed. The words have a clause of their own.
 abbrev pub HasCause : Status → Option (List ℕ) → Option Past → Option Past → ℕ → ℕ → ℕ → ℕ → Faults → Faults → Type 0
@@ -111,7 +151,7 @@ HasCause s.DiskFault left old new source source' sink sink' disk disk' = Rose di
 HasCause s.NoMemory left old new source source' sink sink' disk disk' = Unit {0}
 HasCause (s.InputTooLong limit) left old new source source' sink sink' disk disk' = (limit ≡ input_limit) × IfSome left (λ bytes. input_limit < length bytes)
 HasCause (s.NotBuilt u.Words) left old new source source' sink sink' disk disk' = Unit {0}
-HasCause (s.NotBuilt u.Script) left old new source source' sink sink' disk disk' = IfSome left (λ bytes. script_commands bytes ≡ None)
+HasCause (s.NotBuilt u.Script) left old new source source' sink sink' disk disk' = IfSome left (λ bytes. script_lines bytes ≡ None)
 HasCause (s.NotBuilt u.Directory) left old new source source' sink sink' disk disk' = (content_of new ≡ content_of old) × Told old (λ s. IsEmpty s → ⊥)
 
 -- no call of the disk was made

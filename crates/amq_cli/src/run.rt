@@ -1,13 +1,15 @@
 //! Running the commands of a script on a disk.
-ghost use Rattle.std.specs.Prelude.{◌≡◌, ◌≢◌, ◌⊎◌, ◌≤◌, [], length, All, None, IfSome};
+ghost use Rattle.std.specs.Prelude.{◌≡◌, ◌≢◌, ◌⊎◌, ◌≤◌, true, [], length, All, IsTrue, None, IfSome};
 ghost use Rattle.amq_model.specs.Answers.{history_of};
+ghost use Rattle.amq_model.specs.Configs.{IsConfig};
 ghost use Rattle.amq_model.specs.Legal.{AreLegal};
-ghost use Rattle.amq_model.specs.Plain.{IsAddOrDelete};
 ghost use Rattle.amq_model.specs.Leaves.{Leaves, Unchanged, LeavesNothingNew, Told, IsThere};
-ghost use Rattle.amq_engine.specs.Engine.{data_name};
+ghost use Rattle.amq_engine.specs.Engine.{data_name, AreBegun, IsChronicle};
 ghost use Rattle.amq_engine.specs.Receipts.{IsCrashSafe, IsLastCount};
-ghost use Rattle.amq_cli.specs.Offline.{lists_of, HasBase, HasRun, HasRunCause, IsReported, defaults, HasRunOn, HasDiskCause};
+ghost use Rattle.amq_cli.specs.Offline.{lists_of, HasBase, HasRun, HasRunCause, HasText, IsReported, HasRunOn, HasDiskCause, is_unwritten};
 ghost use Rattle.amq_cli.specs.Loaded.{content_of};
+ghost use Rattle.amq_cli.specs.Playing.{HasPlayed};
+ghost use Rattle.amq_cli.specs.Replay.{is_built};
 ghost use Rattle.amq_cli.specs.Statuses.{status_of, status_of_opening};
 
 use crate::reload::reload;
@@ -15,44 +17,37 @@ use crate::replay::replay;
 use crate::status::{Status, Unbuilt};
 use amq_engine::{Engine, Kept, OpenFailed};
 use amq_io::{Disk, DiskFault};
-use amq_model::{Command, Config, OpenFault, Refusal};
+use amq_model::{Config, Line, OpenFault, Refusal};
 use amq_print::report;
 use std::alloc::Global;
 
-/// The configuration of a broker that sets nothing.
-const DEFAULTS: Config = Config {
-    file_size: 10_485_760,
-    min_files: 2,
-    pool_files: None,
-    compact_min_files: 10,
-    compact_percentage: 30,
-    buffer_size: 501_760,
-    buffer_timeout: 3,
-    user_version: 0,
-};
-
-/// Opens a journal, gives it the commands, closes it and loads it again. The text gets the lines.
+/// Opens a journal, gives it the lines of a script, closes it and loads it again. The text gets the
+/// lines that are to be written.
 pub fn run<D: Disk>(
     alloc: Global,
-    commands: Vec<Command>,
+    config: Config,
+    lines: Vec<Line>,
     disk: D,
     text: &mut Vec<u8>,
 ) -> (Status, D, Kept)
-    requires kinds { All IsAddOrDelete commands.items }
+    requires config { IsConfig config }
+    requires built { All (λ line. IsTrue (is_built line)) lines.items }
     requires empty { text.old.items ≡ [] }
-    ensures run { result.0 ≡ Status.Ok → HasRun commands.items text.new.items (D.past disk) (D.past result.1) result.2.base result.2.steps.items }
+    ensures run { result.0 ≡ Status.Ok → HasRun config lines.items text.new.items (D.past disk) (D.past result.1) result.2.base result.2.steps.items result.2.receipts.items }
+    ensures text { HasText config.buffer_timeout result.0 lines.items (D.faults result.1) result.2.steps.items result.2.receipts.items text.new.items }
+    ensures unbuilt { is_unwritten result.0 ≡ true → text.new.items ≡ [] }
     ensures cause { HasRunCause result.0 (D.past disk) (D.past result.1) (D.faults disk) (D.faults result.1) }
     ensures base { result.2.base ≡ [] }
-    ensures legal { AreLegal result.2.base result.2.steps.items defaults }
+    ensures legal { AreLegal result.2.base result.2.steps.items config }
     ensures later { (D.faults disk).0 ≤ (D.faults result.1).0 }
-    ensures crash_safe { IsCrashSafe (D.past result.1) (D.moment result.1) defaults.user_version (lists_of result.2) }
+    ensures crash_safe { IsCrashSafe (D.past result.1) (D.moment result.1) config.user_version (lists_of result.2) }
     ensures durable { result.0 ≡ Status.Ok → IsLastCount (length (history_of result.2.steps.items)) result.2.receipts.items }
     ensures opened { (result.2.receipts.items ≡ []) ⊎ Told (D.past disk) (HasBase result.2.base) }
     ensures nothing_new { result.2.receipts.items ≡ [] → LeavesNothingNew (D.past disk) (D.past result.1) }
 {
     let chronicle = Kept::new(alloc);
-    match Engine::open_on(alloc, disk, chronicle, DEFAULTS) {
-        Ok((engine, _state)) => run_on(alloc, engine, commands, text),
+    match Engine::open_on(alloc, disk, chronicle, config) {
+        Ok((engine, _state)) => run_on(alloc, engine, lines, text),
         Err(
             OpenFailed {
                 disk,
@@ -63,29 +58,29 @@ pub fn run<D: Disk>(
     }
 }
 
-/// Gives the commands to an open journal, closes it and loads it again.
+/// Gives the lines to an open journal, closes it and loads it again.
 fn run_on<D: Disk>(
     alloc: Global,
     mut engine: Engine<D, Kept>,
-    commands: Vec<Command>,
+    lines: Vec<Line>,
     text: &mut Vec<u8>,
 ) -> (Status, D, Kept)
-    requires kinds { All IsAddOrDelete commands.items }
-    requires empty { text.old.items ≡ [] }
+    requires built { All (λ line. IsTrue (is_built line)) lines.items }
     requires open { engine.closed ≡ None }
-    requires flushed { engine.durable ≡ engine.appended }
-    requires config { engine.config ≡ defaults }
-    requires begun { (engine.chronicle.base ≡ []) × (engine.chronicle.steps.items ≡ []) }
-    ensures run { result.0 ≡ Status.Ok → HasRunOn commands.items text.new.items (D.past result.1) result.2.base result.2.steps.items }
+    requires config { IsConfig engine.config }
+    requires base { engine.chronicle.base ≡ [] }
+    requires begun { HasPlayed engine.config.buffer_timeout [] 1 engine text.old.items }
+    ensures run { result.0 ≡ Status.Ok → HasRunOn engine.config lines.items text.new.items (D.past result.1) result.2.base result.2.steps.items result.2.receipts.items }
+    ensures text { HasText engine.config.buffer_timeout result.0 lines.items (D.faults result.1) result.2.steps.items result.2.receipts.items text.new.items }
     ensures cause { HasDiskCause result.0 (D.faults engine.disk) (D.faults result.1) }
     ensures base { result.2.base ≡ [] }
-    ensures legal { AreLegal result.2.base result.2.steps.items defaults }
+    ensures legal { AreLegal result.2.base result.2.steps.items engine.config }
     ensures later { (D.faults engine.disk).0 ≤ (D.faults result.1).0 }
-    ensures crash_safe { IsCrashSafe (D.past result.1) (D.moment result.1) defaults.user_version (lists_of result.2) }
+    ensures crash_safe { IsCrashSafe (D.past result.1) (D.moment result.1) engine.config.user_version (lists_of result.2) }
     ensures durable { result.0 ≡ Status.Ok → IsLastCount (length (history_of result.2.steps.items)) result.2.receipts.items }
     ensures receipted { result.2.receipts.items ≢ [] }
 {
-    let played = replay(&mut engine, commands, text);
+    let played = replay(&mut engine, lines, text);
     let (mut disk, chronicle, closed) = engine.close();
     let status = match played {
         Ok(()) => match closed {
@@ -101,6 +96,7 @@ fn run_on<D: Disk>(
 fn add_report<D: Disk>(alloc: Global, disk: &mut D, text: &mut Vec<u8>) -> Status
     requires there { Told (D.past disk.old) (IsThere data_name) }
     ensures reported { result ≡ Status.Ok → IsReported text.old.items text.new.items (D.past disk.old) (D.past disk.new) }
+    ensures unreported { (result ≡ Status.Ok) ⊎ (text.new.items ≡ text.old.items) }
     ensures cause { HasDiskCause result (D.faults disk.old) (D.faults disk.new) }
     ensures later { (D.faults disk.old).0 ≤ (D.faults disk.new).0 }
     ensures only_asks { Leaves Unchanged Unchanged (D.past disk.old) (D.past disk.new) }

@@ -24,7 +24,7 @@ use Rattle.amq_model.specs.Answers.{record_of, history_of, in_view, too_large, f
 use Rattle.amq_model.specs.Legal.{AreLegal}
 use Rattle.amq_model.specs.Plain.{IsPlain}
 use Rattle.amq_model.specs.Configs.{IsConfig}
-use Rattle.amq_buffer.specs.Buffered.{Buffered, begun, is_due}
+pub use Rattle.amq_buffer.specs.Buffered.{Buffered, begun, is_due}
 use Rattle.amq_scan.specs.Written.{Item, IsItem, spelled, end_from}
 use Rattle.amq_engine.specs.declared.chronicle.Receipted.{Receipted}
 use Rattle.amq_engine.specs.declared.tail.Tail.{Tail}

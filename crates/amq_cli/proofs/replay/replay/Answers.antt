@@ -1,29 +1,49 @@
+use Rattle.std.proofs.Common.{◌≡◌, ◌+◌, [], ◌∷◌, ◌++◌, All, sym, ap, subst, ◌∙◌, rules, arith}
+use Rattle.std.specs.Prelude.{IsTrue, Err, IfErr, reverse, length}
+use Rattle.std.proofs.lemmas.List.{length-append}
 use Rattle.std.proofs.lemmas.List.Elements.{All-take}
-use Rattle.amq_model.specs.Plain.{IsAddOrDelete}
-use Rattle.std.proofs.Common.{◌≡◌, [], ◌∷◌, ◌++◌, All, sym, subst, rules}
-use Rattle.amq_cli.proofs.Played.{played_each, played_numbered, played_lines, played_count}
+use Rattle.amq_model.specs.declared.script.Line.{Line}
+use Rattle.amq_cli.specs.Replay.{is_built, is_for_memory, HasEnded}
+use Rattle.amq_model.specs.Texts.{refusal_line}
+use Rattle.amq_cli.specs.Playing.{HasPlayed}
+use Rattle.amq_cli.proofs.Ending.{one_taken, ended_more}
 use Rattle.amq_cli.proofs.replay.replay.Goals as goal
 
-pub loop-command-preserved : goal.loop-command-preserved
-loop-command-preserved g c =
-    let was = c.loop-command.invariant in
-    let number = c.loop-command.number in
-    let command = c.in-Some.command in
-    let steps = c.loop-command.engine.chronicle.steps.items in
-    let steps' = c.answer_one.new.engine.chronicle.steps.items in
-    let before = c.loop-command.text.items in
-    let after = c.answer_one.new.text.items in
-    let a = c.in_ok-answer_one.ensures.answered in
-    let popped : c.loop-command.commands.items ≡ c.pop.new.self.items ++ command ∷ [] = search rules in
+pub loop-line-preserved : goal.loop-line-preserved
+loop-line-preserved g c =
+    let was = c.loop-line.invariant in
+    let line = c.in-Some.line in
+    let popped : c.loop-line.lines.items ≡ c.pop.new.self.items ++ line ∷ [] = search rules in
+    let played = was.played in
+    let timeout = ap (λ (k : _). k.buffer_timeout) was.config in
     record {
-      kinds = subst (All IsAddOrDelete) (sym c.pop.ensures.rest) (All-take IsAddOrDelete _ c.loop-command.commands.items was.kinds);
-      each = played_each number command steps steps' before after a c.loop-command.commands.items c.pop.new.self.items c.args.commands.items popped was.each;
-      numbered = played_numbered number command steps steps' before after a was.count was.numbered;
-      lines = played_lines number command steps steps' before after a was.lines;
-      count = played_count number command steps steps' before after a was.count;
+      built = subst (All (λ line. IsTrue (is_built line))) (sym c.pop.ensures.rest) (All-take (λ line. IsTrue (is_built line)) _ c.loop-line.lines.items was.built);
+      played = (
+        played.0 ++ line ∷ [],
+        one_taken c.args.lines.items played.0 c.loop-line.lines.items c.pop.new.self.items line popped played.1,
+        subst (λ t. HasPlayed t (played.0 ++ line ∷ []) c.play_line.new.number c.play_line.new.engine c.play_line.new.text.items) timeout
+            (c.in_ok-play_line.ensures.played played.0 (subst (λ t. HasPlayed t played.0 c.loop-line.number c.loop-line.engine c.loop-line.text.items) (sym timeout) played.2)),
+      );
+      few = omega (arith, was.few, c.play_line.ensures.next, ap length popped, length-append c.pop.new.self.items (line ∷ []));
       unclosed = search rules;
-      flushed = search rules;
       config = search rules;
       base = search rules;
       later = search rules;
     }
+
+pub returns-in_err-play_line-clause-ended : goal.returns-in_err-play_line-clause-ended
+returns-in_err-play_line-clause-ended g c =
+    let was = c.loop-line.invariant in
+    let line = c.in-Some.line in
+    let popped : c.loop-line.lines.items ≡ c.pop.new.self.items ++ line ∷ [] = search rules in
+    let played = was.played in
+    let timeout = ap (λ (k : _). k.buffer_timeout) was.config in
+    let steps = c.play_line.new.engine.chronicle.steps.items in
+    let receipts = c.play_line.new.engine.chronicle.receipts.items in
+    let ended = c.in_err-play_line.ensures.ended played.0 (subst (λ t. HasPlayed t played.0 c.loop-line.number c.loop-line.engine c.loop-line.text.items) (sym timeout) played.2) in
+    let all = one_taken c.args.lines.items played.0 c.loop-line.lines.items c.pop.new.self.items line popped played.1 in
+    let here = subst (λ ls. HasEnded c.args.engine.now.config.buffer_timeout ls steps receipts c.play_line.new.text.items (refusal_line c.in_err-play_line.field-0.0) (is_for_memory c.in_err-play_line.field-0.0)) all
+        (ended_more c.args.engine.now.config.buffer_timeout (played.0 ++ line ∷ []) (reverse c.pop.new.self.items) steps receipts c.play_line.new.text.items _ _
+        (subst (λ t. HasEnded t (played.0 ++ line ∷ []) steps receipts c.play_line.new.text.items (refusal_line c.in_err-play_line.field-0.0) (is_for_memory c.in_err-play_line.field-0.0)) timeout ended)) in
+    let err : c.from_residual.result ≡ Err c.in_err-play_line.field-0.0 = search rules in
+    subst (λ r. IfErr r (λ refusal. HasEnded c.args.engine.now.config.buffer_timeout c.args.lines.items steps receipts c.play_line.new.text.items (refusal_line refusal) (is_for_memory refusal))) (sym err) here

@@ -1,25 +1,22 @@
-use Rattle.std.proofs.Common.{◌≡◌, ◌≤◌, ◌++◌, length, map, None}
-use Rattle.std.specs.Prelude.{All, reverse}
-use Rattle.amq_model.specs.Plain.{IsAddOrDelete}
-use Rattle.amq_cli.specs.Replay.{AreNumbered, reply_lines}
+use Rattle.std.proofs.Common.{◌≡◌, ◌+◌, ◌≤◌, ◌++◌, List, length, None}
+use Rattle.std.specs.Prelude.{All, IsTrue, reverse}
+use Rattle.amq_model.specs.declared.script.Line.{Line}
+use Rattle.amq_cli.specs.Replay.{is_built}
+use Rattle.amq_cli.specs.Playing.{HasPlayed}
 use Rattle.amq_cli.proofs.replay.replay.Given as goal
 
 -- what was answered, and what is left
-abbrev pub invariant-loop-command : goal.invariant-loop-command
-invariant-loop-command g l =
-    let steps = l.engine.chronicle.steps.items in
+abbrev pub invariant-loop-line : goal.invariant-loop-line
+invariant-loop-line g l =
     record {
-      kinds : All IsAddOrDelete l.commands.items;
-      each : map (λ s. s.command) steps ++ reverse l.commands.items ≡ l.fn.commands.items;
-      numbered : AreNumbered 1 steps;
-      lines : l.text.items ≡ reply_lines steps;
-      count : l.number ≡ length steps;
+      built : All (λ line. IsTrue (is_built line)) l.lines.items;
+      played : (done : List Line) × (done ++ reverse l.lines.items ≡ l.fn.lines.items) × HasPlayed l.fn.engine.config.buffer_timeout done l.number l.engine l.text.items;
+      few : l.number + length l.lines.items ≤ length l.fn.lines.items + 1;
       unclosed : l.engine.closed ≡ None;
-      flushed : l.engine.durable ≡ l.engine.appended;
       config : l.engine.config ≡ l.fn.engine.config;
       base : l.engine.chronicle.base ≡ l.fn.engine.chronicle.base;
       later : (g.D.Disk.faults l.fn.engine.disk).0 ≤ (g.D.Disk.faults l.engine.disk).0;
     }
 
-abbrev pub decreases-loop-command : goal.decreases-loop-command
-decreases-loop-command g l = length l.commands.items
+abbrev pub decreases-loop-line : goal.decreases-loop-line
+decreases-loop-line g l = length l.lines.items

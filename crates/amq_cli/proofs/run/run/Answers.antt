@@ -1,15 +1,25 @@
-use Rattle.std.proofs.Common.{inr, rules}
+use Rattle.std.proofs.Common.{inr, sym, subst, rules}
+use Rattle.amq_model.specs.declared.config.Config.{Config}
+use Rattle.amq_cli.specs.Offline.{lists_of, HasRun, HasRunOn, HasText}
 use Rattle.amq_cli.proofs.Reloading.{began}
-use Rattle.amq_cli.specs.Offline.{defaults, lists_of}
 use Rattle.amq_cli.proofs.Recovering.{opened_so, come_nothing_new}
+use Rattle.amq_cli.proofs.Running.{begun_played, unopened_text, opening_ends}
 use Rattle.amq_cli.proofs.run.run.Goals as goal
+
+pub run_on-requires-clause-begun : goal.run_on-requires-clause-begun
+run_on-requires-clause-begun g c =
+    let o = c.in-Ok.ensures.opened in
+    begun_played c.in-Ok.engine.config.buffer_timeout c.in-Ok.engine c.args.text.now.items _ o.1 o.2 o.4 o.5 c.in-Ok.ensures.lists c.requires.empty
 
 pub returns-in-Ok-clause-run : goal.returns-in-Ok-clause-run
 returns-in-Ok-clause-run g c = λ done. record {
   empty = c.in-Ok.ensures.empty;
   began = began c.run_on.result.2.base (g.D.Disk.past c.args.disk) c.run_on.ensures.base c.in-Ok.ensures.empty;
-  ran = c.run_on.ensures.run done;
+  ran = subst (λ (k : Config). HasRunOn k c.args.lines.items c.run_on.new.text.items (g.D.Disk.past c.run_on.result.1) c.run_on.result.2.base c.run_on.result.2.steps.items c.run_on.result.2.receipts.items) c.in-Ok.ensures.opened.0 (c.run_on.ensures.run done);
 }
+
+pub returns-in-Err-clause-text : goal.returns-in-Err-clause-text
+returns-in-Err-clause-text g c = unopened_text c.args.config.buffer_timeout _ c.args.lines.items (g.D.Disk.faults c.in-Err.field-0.disk) c.in-Err.field-0.chronicle.steps.items c.in-Err.field-0.chronicle.receipts.items c.args.text.now.items (search rules) c.requires.empty (search rules)
 
 pub returns-in-Ok-clause-opened : goal.returns-in-Ok-clause-opened
 returns-in-Ok-clause-opened g c = inr (began c.run_on.result.2.base (g.D.Disk.past c.args.disk) c.run_on.ensures.base c.in-Ok.ensures.empty)
@@ -18,4 +28,4 @@ pub returns-in-Err-clause-opened : goal.returns-in-Err-clause-opened
 returns-in-Err-clause-opened g c = opened_so c.in-Err.field-0.chronicle.receipts.items c.in-Err.field-0.chronicle.base (g.D.Disk.past c.args.disk) (search rules) c.in-Err.ensures.failed_empty
 
 pub returns-in-Err-clause-nothing_new : goal.returns-in-Err-clause-nothing_new
-returns-in-Err-clause-nothing_new g c = come_nothing_new defaults (g.D.Disk.moment c.args.disk) (g.D.Disk.past c.args.disk) (g.D.Disk.past c.in-Err.field-0.disk) (lists_of c.in-Err.field-0.chronicle) c.in-Err.ensures.failed_come
+returns-in-Err-clause-nothing_new g c = come_nothing_new c.args.config (g.D.Disk.moment c.args.disk) (g.D.Disk.past c.args.disk) (g.D.Disk.past c.in-Err.field-0.disk) (lists_of c.in-Err.field-0.chronicle) c.in-Err.ensures.failed_come

@@ -1,48 +1,72 @@
-use Rattle.std.proofs.Common.{◌≡◌, ℕ, List, [], sym, subst, ◌∙◌, rules}
-use Rattle.amq_model.specs.declared.history.Step.{Step}
+use Rattle.std.proofs.Common.{◌≡◌, inr, ℕ, List, [], sym, ap, subst, ◌∙◌, rules}
+use Rattle.std.specs.Prelude.{IsSome}
 use Rattle.amq_model.specs.declared.config.Config.{Config}
 use Rattle.amq_model.specs.Answers.{history_of}
 use Rattle.amq_model.specs.Leaves.{Told}
 use Rattle.amq_engine.specs.Engine.{data_name}
 use Rattle.amq_engine.specs.OneFile.{IsJournalFile}
-use Rattle.amq_cli.specs.Replay.{IsReplayed}
-use Rattle.amq_cli.specs.Offline.{HasRunOn, defaults, lists_of}
 use Rattle.amq_engine.specs.Receipts.{IsCrashSafe}
+use Rattle.amq_cli.specs.Offline.{HasRunOn, HasText, lists_of}
 use Rattle.amq_cli.proofs.Recovering.{safe_still}
-use Rattle.amq_cli.proofs.Noted.{receipted_steps}
 use Rattle.amq_cli.proofs.Reloading.{has_run_on, never_done, closed_so}
+use Rattle.amq_cli.proofs.Running.{replayed_closed, ended_closed, reported_text, unreported_text, refused_text, refusal_status, named_refusal}
 use Rattle.amq_cli.proofs.run.run_on.Goals as goal
 use Rattle.amq_cli.proofs.run.run_on.Goals.{in-Ok+in-Ok-closed, in-Ok+in-Err-closed, in-Err}
 
 pub returns-clause-run : goal.returns-clause-run
 returns-clause-run g c =
+    let config = c.args.engine.config in
+    let lines = c.args.lines.items in
+    let kept = c.close-disk.result.1 in
+    let closed = g.D.Disk.past c.close-disk.result.0 in
+    let played = c.replay-played.new.engine in
     elim c.match-played.branch [
       | in-Ok+in-Ok-closed w ↦ (λ done.
-          let commands = c.args.commands.items in
-          let steps = c.close-disk.result.1.steps.items in
-          let base = c.close-disk.result.1.base in
           let before = c.replay-played.new.text.items in
-          let closed = g.D.Disk.past c.close-disk.result.0 in
-          let same : steps ≡ c.replay-played.new.engine.chronicle.steps.items = receipted_steps _ _ _ _ _ c.close-disk.ensures.receipt in
-          let replayed : IsReplayed commands steps before = subst (λ (ss : List Step). IsReplayed commands ss before) (sym same) w.in-Ok.ensures.replayed in
-          let config : c.replay-played.new.engine.config ≡ defaults = search rules in
-          let file : Told closed (IsJournalFile data_name 0 10485760 (history_of steps)) = subst (λ (k : Config). Told closed (IsJournalFile data_name k.user_version k.file_size (history_of steps))) config (closed_so c.close-disk.result.2 w.in-Ok-closed.field-0 _ w.in-Ok-closed.is c.close-disk.ensures.content) in
-          let none : base ≡ [] = search rules in
-          let ran = has_run_on commands before w.add_report.new.text.items base steps closed (g.D.Disk.past w.add_report.new.disk) replayed none file (w.add_report.ensures.reported (sym w.status-is ∙ done)) in
-          subst (λ d. HasRunOn commands c.match-played.text.items (g.D.Disk.past d) base steps) (sym w.disk-is) (subst (λ t. HasRunOn commands t.items (g.D.Disk.past w.add_report.new.disk) base steps) (sym w.text-is) ran))
+          let replayed = replayed_closed config.buffer_timeout lines (lists_of played.chronicle) (lists_of kept) _ _ _ c.close-disk.ensures.receipt before w.in-Ok.ensures.replayed in
+          let file : Told closed (IsJournalFile data_name config.user_version config.file_size (history_of kept.steps.items)) = subst (λ (k : Config). Told closed (IsJournalFile data_name k.user_version k.file_size (history_of kept.steps.items))) c.replay-played.ensures.same.0 (closed_so c.close-disk.result.2 w.in-Ok-closed.field-0 _ w.in-Ok-closed.is c.close-disk.ensures.content) in
+          let none : kept.base ≡ [] = search rules in
+          let ran = has_run_on config lines before w.add_report.new.text.items kept.base kept.steps.items kept.receipts.items closed (g.D.Disk.past w.add_report.new.disk) c.requires.config replayed none file (w.add_report.ensures.reported (sym w.status-is ∙ done)) in
+          subst (λ d. HasRunOn config lines c.match-played.text.items (g.D.Disk.past d) kept.base kept.steps.items kept.receipts.items) (sym w.disk-is) (subst (λ t. HasRunOn config lines t.items (g.D.Disk.past w.add_report.new.disk) kept.base kept.steps.items kept.receipts.items) (sym w.text-is) ran))
       | in-Ok+in-Err-closed w ↦ (λ done. absurd (never_done _ (sym w.status_of_refusal.ensures ∙ sym w.status-is ∙ done)))
       | in-Err w ↦ (λ done. absurd (never_done _ (sym w.status_of_refusal-status.ensures ∙ sym w.status-is ∙ done)))
+    ]
+
+pub returns-clause-text : goal.returns-clause-text
+returns-clause-text g c =
+    let timeout = c.args.engine.config.buffer_timeout in
+    let lines = c.args.lines.items in
+    let kept = c.close-disk.result.1 in
+    let steps = kept.steps.items in
+    let receipts = kept.receipts.items in
+    let played = c.replay-played.new.engine in
+    let before = c.replay-played.new.text.items in
+    let status = c.match-played.status in
+    let faults = g.D.Disk.faults in
+    elim c.match-played.branch [
+      | in-Ok+in-Ok-closed w ↦ (let replayed = replayed_closed timeout lines (lists_of played.chronicle) (lists_of kept) _ _ _ c.close-disk.ensures.receipt before w.in-Ok.ensures.replayed in
+          let text = reported_text timeout w.add_report.result lines (faults c.match-played.disk) (faults c.close-disk.result.0) (faults w.add_report.new.disk) steps receipts before w.add_report.new.text.items (g.D.Disk.past c.close-disk.result.0) (g.D.Disk.past w.add_report.new.disk) replayed w.add_report.ensures.reported w.add_report.ensures.unreported w.add_report.ensures.cause in
+          subst (λ s. HasText timeout s lines (faults c.match-played.disk) steps receipts c.match-played.text.items) (sym w.status-is) (subst (λ t. HasText timeout w.add_report.result lines (faults c.match-played.disk) steps receipts t.items) (sym w.text-is) text))
+      | in-Ok+in-Err-closed w ↦ (let replayed = replayed_closed timeout lines (lists_of played.chronicle) (lists_of kept) _ _ _ c.close-disk.ensures.receipt before w.in-Ok.ensures.replayed in
+          let which = refusal_status w.in-Err-closed.refusal in
+          let same = w.status-is ∙ w.status_of_refusal.ensures in
+          subst (λ s. HasText timeout s lines (faults c.match-played.disk) steps receipts c.match-played.text.items) (sym same) (unreported_text timeout _ lines (faults c.match-played.disk) steps receipts before c.match-played.text.items replayed (ap (λ t. t.items) w.text-is) which))
+      | in-Err w ↦ (let ended = ended_closed timeout lines (lists_of played.chronicle) (lists_of kept) _ _ _ c.close-disk.ensures.receipt before _ _ w.in-Err.ensures.ended in
+          let idle : IsSome played.closed → faults c.match-played.disk ≡ faults played.disk = λ some. ap faults (w.disk-is ∙ c.close-disk.ensures.idle (inr some)) in
+          let named = named_refusal (Unit {0}) w.in-Err.refusal (faults c.args.engine.disk) (faults played.disk) (faults c.match-played.disk) played.closed w.in-Err.ensures.cause w.in-Err.ensures.closes idle in
+          subst (λ t. HasText timeout status lines (faults c.match-played.disk) steps receipts t.items) (sym w.text-is)
+          (refused_text timeout status lines (faults c.match-played.disk) steps receipts before w.in-Err.refusal w.in-Err.ensures.last (w.status-is ∙ w.status_of_refusal-status.ensures) named ended))
     ]
 
 pub returns-clause-crash_safe : goal.returns-clause-crash_safe
 returns-clause-crash_safe g c =
     let kept = lists_of c.close-disk.result.1 in
-    let user_version : c.replay-played.new.engine.config.user_version ≡ 0 = search rules in
-    let closed : IsCrashSafe (g.D.Disk.past c.close-disk.result.0) (g.D.Disk.moment c.close-disk.result.0) 0 kept =
-    subst (λ (n : ℕ). IsCrashSafe (g.D.Disk.past c.close-disk.result.0) (g.D.Disk.moment c.close-disk.result.0) n kept) user_version c.close-disk.ensures.crash_safe in
+    let wanted = c.args.engine.config.user_version in
+    let closed : IsCrashSafe (g.D.Disk.past c.close-disk.result.0) (g.D.Disk.moment c.close-disk.result.0) wanted kept =
+    subst (λ (k : Config). IsCrashSafe (g.D.Disk.past c.close-disk.result.0) (g.D.Disk.moment c.close-disk.result.0) k.user_version kept) c.replay-played.ensures.same.0 c.close-disk.ensures.chronicle.crash_safe in
     elim c.match-played.branch [
-      | in-Ok+in-Ok-closed w ↦ subst (λ d. IsCrashSafe (g.D.Disk.past d) (g.D.Disk.moment d) 0 kept) (sym w.disk-is)
-          (safe_still (g.D.Disk.past c.close-disk.result.0) (g.D.Disk.past w.add_report.new.disk) (g.D.Disk.moment c.close-disk.result.0) (g.D.Disk.moment w.add_report.new.disk) 0 kept w.add_report.ensures.only_asks w.add_report.ensures.moment closed)
-      | in-Ok+in-Err-closed w ↦ subst (λ d. IsCrashSafe (g.D.Disk.past d) (g.D.Disk.moment d) 0 kept) (sym w.disk-is) closed
-      | in-Err w ↦ subst (λ d. IsCrashSafe (g.D.Disk.past d) (g.D.Disk.moment d) 0 kept) (sym w.disk-is) closed
+      | in-Ok+in-Ok-closed w ↦ subst (λ d. IsCrashSafe (g.D.Disk.past d) (g.D.Disk.moment d) wanted kept) (sym w.disk-is)
+          (safe_still (g.D.Disk.past c.close-disk.result.0) (g.D.Disk.past w.add_report.new.disk) (g.D.Disk.moment c.close-disk.result.0) (g.D.Disk.moment w.add_report.new.disk) wanted kept w.add_report.ensures.only_asks w.add_report.ensures.moment closed)
+      | in-Ok+in-Err-closed w ↦ subst (λ d. IsCrashSafe (g.D.Disk.past d) (g.D.Disk.moment d) wanted kept) (sym w.disk-is) closed
+      | in-Err w ↦ subst (λ d. IsCrashSafe (g.D.Disk.past d) (g.D.Disk.moment d) wanted kept) (sym w.disk-is) closed
     ]

@@ -1,0 +1,205 @@
+-- One line of a replay, through the engine.
+use Rattle.std.proofs.Common.{◌≡◌, ◌⊎◌, inl, inr, ℕ, ◌+◌, ◌≤◌, Bool, true, false, cond, eqb, List, [], ◌∷◌, ◌++◌, Option, None, Some, refl, sym, ap, subst, ◌∙◌, arith}
+use Rattle.std.specs.Prelude.{max, IsTrue, is_some, is_ok, option_map, ◌&&◌, ◌||◌, Result, Ok, Err}
+use Rattle.std.specs.List.{list_any}
+use Rattle.std.proofs.lemmas.Bool.{eq-eqb}
+use Rattle.amq_model.specs.declared.record.Record.{Record}
+use Rattle.amq_model.specs.declared.record.Record.TheVariants as r
+use Rattle.amq_model.specs.declared.record.Placed.{Placed}
+use Rattle.amq_model.specs.declared.command.Command.{Command}
+use Rattle.amq_model.specs.declared.command.Command.TheVariants as c
+use Rattle.amq_model.specs.declared.command.Reply.{Reply}
+use Rattle.amq_model.specs.declared.command.Reply.TheVariants.{Appended, Durable}
+use Rattle.amq_model.specs.declared.script.Line.{Line}
+use Rattle.amq_model.specs.declared.script.Line.TheVariants as l
+use Rattle.amq_model.specs.declared.history.Answer.{Answer}
+use Rattle.amq_model.specs.declared.history.Answer.TheVariants.{Done, Refused}
+use Rattle.amq_model.specs.declared.history.Step.{Step}
+use Rattle.amq_model.specs.declared.refusal.Refusal.{Refusal}
+use Rattle.amq_model.specs.Plain.{IsPlainCommand}
+use Rattle.amq_engine.specs.declared.chronicle.Kept.{Kept}
+use Rattle.amq_engine.specs.declared.chronicle.Receipted.{Receipted}
+use Rattle.amq_engine.specs.Lists.{Lists, with_step, with_receipt}
+use Rattle.amq_engine.specs.Receipts.{IsLastCount, EndsWith}
+use Rattle.amq_engine.specs.Engine.{EngineOf, Notes, is_noted, answer_of, receipted, reply_to, flushes, flushed, with_record, behind_command, at_clock, must_flush, behind_tick, is_due}
+use Rattle.amq_cli.specs.Offline.{lists_of}
+use Rattle.amq_cli.specs.Replay.{is_built, IsTicked, Answered, commanded, counted, placed_at, clock_of, IsReceipted, AreLineAnswers}
+use Rattle.amq_cli.specs.Playing.{AreNumbers, AreSteps, IsPlaying}
+use Rattle.amq_cli.proofs.Playing.{numbers_flushed, numbers_appended, numbers_answered, tick_waits, tick_flushes, same_clock, later_clock, one_more_answer, step_more, steps_same, weaker_receipts}
+
+-- ---- what was noted
+
+-- the same receipts, or one more
+abbrev pub Grows : List Receipted → List Receipted → Type 0
+Grows old new = (new ≡ old) ⊎ ((r : Receipted) × (new ≡ old ++ r ∷ []))
+
+any_front : (p : Receipted → Bool) (rs : List Receipted) (r : Receipted) → list_any p rs ≡ true → list_any p (rs ++ r ∷ []) ≡ true
+any_front p [] r is = absurd cc
+any_front p (q ∷ qs) r is = by (p q) refl (any_front p qs r) where
+  by : (b : Bool) → p q ≡ b → (list_any p qs ≡ true → list_any p (qs ++ r ∷ []) ≡ true) → (p q || list_any p (qs ++ r ∷ [])) ≡ true
+  by true here rest = ap (λ x. x || list_any p (qs ++ r ∷ [])) here
+  by false here rest = ap (λ x. x || list_any p (qs ++ r ∷ [])) here ∙ rest (sym (ap (λ x. x || list_any p qs) here) ∙ is)
+
+pub more_receipts : (old new : List Receipted) → Grows old new → (n : ℕ) → IsReceipted old n → IsReceipted new n
+more_receipts old new (inl same) n is = subst (λ rs. IsReceipted rs n) (sym same) is
+more_receipts old new (inr one) n is = subst (λ rs. IsReceipted rs n) (sym one.1) (any_front (λ r. eqb r.durable n) old one.0 is)
+
+ends_some : (n : ℕ) (r : Receipted) (rs : List Receipted) → EndsWith n r rs → list_any (λ r. eqb r.durable n) (r ∷ rs) ≡ true
+ends_some n r [] ends = ap (λ x. x || false) (eq-eqb r.durable n ends)
+ends_some n r (s ∷ ss) ends = by (eqb r.durable n) (ends_some n s ss ends) where
+  by : (b : Bool) → list_any (λ r. eqb r.durable n) (s ∷ ss) ≡ true → (b || list_any (λ r. eqb r.durable n) (s ∷ ss)) ≡ true
+  by true is = refl
+  by false is = is
+
+-- the last count is that of a receipt
+pub last_receipted : (n : ℕ) (rs : List Receipted) → IsLastCount n rs → IsReceipted rs n
+last_receipted n [] last = absurd last
+last_receipted n (r ∷ rs) last = ends_some n r rs last
+
+-- a flush, or none
+pub flushed_lists : (b : Bool) (appended moment : ℕ) (old new : Lists) → Some new ≡ receipted b appended moment (Some old) → (new.steps ≡ old.steps) × Grows old.receipts new.receipts
+flushed_lists true appended moment old new is = let same : new ≡ with_receipt appended moment old = cc in (ap (λ (l : Lists). l.steps) same, inr (_, ap (λ (l : Lists). l.receipts) same))
+flushed_lists false appended moment old new is = let same : new ≡ old = cc in (ap (λ (l : Lists). l.steps) same, inl (ap (λ (l : Lists). l.receipts) same))
+
+-- the step that a command noted
+pub record IsNoted (number : ℕ) (command : Command) (result : Result Reply Refusal) (old new : Lists) : Type 0 where
+  pub step : Step
+  pub steps : new.steps ≡ old.steps ++ step ∷ []
+  pub receipts : Grows old.receipts new.receipts
+  pub seated : step.seat ≡ 1
+  pub numbered : step.number ≡ number
+  pub commanded : step.command ≡ command
+  pub answered : step.answer ≡ answer_of result
+
+-- the step of a command
+abbrev step_of : ℕ → Command → Answer → Option Placed → Step
+step_of number command answer placed = record { seat = 1; number = number; command = command; answer = answer; placed = placed }
+
+pub noted : (number : ℕ) (command : Command) (result : Result Reply Refusal) (b : Bool) (appended moment : ℕ) (old new : Lists) → is_noted result ≡ true → Notes 1 number command result (receipted b appended moment (Some old)) (Some new) → IsNoted number command result old new
+noted number command result b appended moment old new taken notes = by b refl where
+  is : Some new ≡ option_map (with_step (step_of number command (answer_of result) notes.placed)) (receipted b appended moment (Some old))
+  is = notes.is ∙ ap (λ (x : Bool). cond x (option_map (with_step (step_of number command (answer_of result) notes.placed)) (receipted b appended moment (Some old))) (receipted b appended moment (Some old))) taken
+
+  by : (x : Bool) → b ≡ x → IsNoted number command result old new
+  by true here =
+      let e : Some new ≡ Some (with_step (step_of number command (answer_of result) notes.placed) (with_receipt appended moment old)) = is ∙ ap (λ (x : Bool). option_map (with_step (step_of number command (answer_of result) notes.placed)) (receipted x appended moment (Some old))) here in
+      let same : new ≡ with_step (step_of number command (answer_of result) notes.placed) (with_receipt appended moment old) = cc in
+      record { step = step_of number command (answer_of result) notes.placed; steps = ap (λ (l : Lists). l.steps) same; receipts = inr (_, ap (λ (l : Lists). l.receipts) same); seated = refl; numbered = refl; commanded = refl; answered = refl }
+  by false here =
+      let e : Some new ≡ Some (with_step (step_of number command (answer_of result) notes.placed) old) = is ∙ ap (λ (x : Bool). option_map (with_step (step_of number command (answer_of result) notes.placed)) (receipted x appended moment (Some old))) here in
+      let same : new ≡ with_step (step_of number command (answer_of result) notes.placed) old = cc in
+      record { step = step_of number command (answer_of result) notes.placed; steps = ap (λ (l : Lists). l.steps) same; receipts = inl (ap (λ (l : Lists). l.receipts) same); seated = refl; numbered = refl; commanded = refl; answered = refl }
+
+-- the command of a line, and its step
+said : {number : ℕ} {command : Command} {result : Result Reply Refusal} {old new : Lists} (n : IsNoted number command result old new) → commanded (l.Plain command, answer_of result) ≡ Some (n.step.command, n.step.answer)
+said {number} {command} {result} n = ap (λ (c : Command). Some (c, answer_of result)) (sym n.commanded) ∙ ap (λ (a : Answer). Some (n.step.command, a)) (sym n.answered)
+
+-- ---- lines
+
+module _ {D : Type 0} (timeout : ℕ) (answered : List Answered) (number : ℕ) (old new : EngineOf D Kept) (was : IsPlaying timeout answered number old) where
+  -- the numbers of this engine, with the receipts that there are now
+  abbrev Numbers : List Answered → EngineOf D Kept → Type 0
+  Numbers xs e = AreNumbers xs new.chronicle.receipts.items e.clock e.appended e.durable e.since
+
+  -- the buffer written out first, or not
+  first_flushed : (b : Bool) → Grows old.chronicle.receipts.items new.chronicle.receipts.items → IsReceipted new.chronicle.receipts.items (cond b (flushed old) old).durable → Numbers answered (cond b (flushed old) old)
+  first_flushed true grows last = numbers_flushed answered old.chronicle.receipts.items new.chronicle.receipts.items old.clock old.appended old.durable old.since was.numbers (more_receipts _ _ grows) last
+  first_flushed false grows last = weaker_receipts answered old.chronicle.receipts.items new.chronicle.receipts.items old.clock old.appended old.durable old.since was.numbers (more_receipts _ _ grows) last
+
+  -- the numbers are those of an engine of which no more is said
+  as_new : (xs : List Answered) (e : EngineOf D Kept) → new ≡ record e { disk = new.disk; chronicle = new.chronicle } → Numbers xs e → Numbers xs new
+  as_new xs e is n = subst (Numbers xs) (sym is) n
+
+  -- a command that was accepted
+  command_numbers : (command : Command) (reply : Reply) → IsPlainCommand command → reply ≡ reply_to old.appended command → Grows old.chronicle.receipts.items new.chronicle.receipts.items → IsReceipted new.chronicle.receipts.items (behind_command command old).durable
+      → Numbers (answered ++ (l.Plain command, Done reply) ∷ []) (behind_command command old)
+  command_numbers (c.Add id user_type body) reply kind is grows last = by (flushes old.config.buffer_size old.waiting (c.Add id user_type body)) last where
+    by : (b : Bool) → IsReceipted new.chronicle.receipts.items (cond b (flushed old) old).durable → Numbers (answered ++ (l.Plain (c.Add id user_type body), Done reply) ∷ []) (with_record (Some (r.Add id user_type body)) (cond b (flushed old) old))
+    by true last = numbers_appended answered _ _ old.clock old.appended old.appended None refl (ap (λ r. placed_at (l.Plain (c.Add id user_type body), Done r)) is) (ap (λ r. counted (l.Plain (c.Add id user_type body), Done r)) is) (first_flushed true grows last)
+    by false last = numbers_appended answered _ _ old.clock old.appended old.durable old.since refl (ap (λ r. placed_at (l.Plain (c.Add id user_type body), Done r)) is) (ap (λ r. counted (l.Plain (c.Add id user_type body), Done r)) is) (first_flushed false grows last)
+  command_numbers (c.Update id user_type body) reply kind is grows last = by (flushes old.config.buffer_size old.waiting (c.Update id user_type body)) last where
+    by : (b : Bool) → IsReceipted new.chronicle.receipts.items (cond b (flushed old) old).durable → Numbers (answered ++ (l.Plain (c.Update id user_type body), Done reply) ∷ []) (with_record (Some (r.Update id user_type body)) (cond b (flushed old) old))
+    by true last = numbers_appended answered _ _ old.clock old.appended old.appended None refl (ap (λ r. placed_at (l.Plain (c.Update id user_type body), Done r)) is) (ap (λ r. counted (l.Plain (c.Update id user_type body), Done r)) is) (first_flushed true grows last)
+    by false last = numbers_appended answered _ _ old.clock old.appended old.durable old.since refl (ap (λ r. placed_at (l.Plain (c.Update id user_type body), Done r)) is) (ap (λ r. counted (l.Plain (c.Update id user_type body), Done r)) is) (first_flushed false grows last)
+  command_numbers (c.Delete id) reply kind is grows last = by (flushes old.config.buffer_size old.waiting (c.Delete id)) last where
+    by : (b : Bool) → IsReceipted new.chronicle.receipts.items (cond b (flushed old) old).durable → Numbers (answered ++ (l.Plain (c.Delete id), Done reply) ∷ []) (with_record (Some (r.Delete id)) (cond b (flushed old) old))
+    by true last = numbers_appended answered _ _ old.clock old.appended old.appended None refl (ap (λ r. placed_at (l.Plain (c.Delete id), Done r)) is) (ap (λ r. counted (l.Plain (c.Delete id), Done r)) is) (first_flushed true grows last)
+    by false last = numbers_appended answered _ _ old.clock old.appended old.durable old.since refl (ap (λ r. placed_at (l.Plain (c.Delete id), Done r)) is) (ap (λ r. counted (l.Plain (c.Delete id), Done r)) is) (first_flushed false grows last)
+  command_numbers c.Flush reply kind is grows last =
+      numbers_answered answered (l.Plain c.Flush, Done reply) _ old.clock old.clock old.appended old.appended None (was.numbers.time ∙ sym (same_clock answered _ refl)) (ap (λ r. placed_at (l.Plain c.Flush, Done r)) is) (inr (ap (λ r. counted (l.Plain c.Flush, Done r)) is)) (first_flushed true grows last)
+  command_numbers c.Begin reply kind is grows last = absurd kind
+  command_numbers (c.AddTx tx id user_type body) reply kind is grows last = absurd kind
+  command_numbers (c.UpdateTx tx id user_type body) reply kind is grows last = absurd kind
+  command_numbers (c.DeleteTx tx id body) reply kind is grows last = absurd kind
+  command_numbers (c.Prepare tx extra) reply kind is grows last = absurd kind
+  command_numbers (c.Commit tx) reply kind is grows last = absurd kind
+  command_numbers (c.Rollback tx) reply kind is grows last = absurd kind
+
+  pub command_accepted : (command : Command) (reply : Reply) (b : Bool) (moment : ℕ) → IsPlainCommand command → reply ≡ reply_to old.appended command → new ≡ record (behind_command command old) { disk = new.disk; chronicle = new.chronicle }
+      → Notes 1 number command (Ok reply) (receipted b old.appended moment (Some (lists_of old.chronicle))) (Some (lists_of new.chronicle)) → IsLastCount new.durable new.chronicle.receipts.items → IsPlaying timeout (answered ++ (l.Plain command, Done reply) ∷ []) (number + 1) new
+  command_accepted command reply b moment kind is went notes last =
+      let n = noted number command (Ok reply) b old.appended moment (lists_of old.chronicle) (lists_of new.chronicle) refl notes in
+      let durable : new.durable ≡ (behind_command command old).durable = ap (λ (e : EngineOf D Kept). e.durable) went in
+      record {
+        numbers = as_new _ (behind_command command old) went (command_numbers command reply kind is n.receipts (subst (IsReceipted new.chronicle.receipts.items) durable (last_receipted new.durable new.chronicle.receipts.items last)));
+        steps = subst (λ ss. AreSteps (answered ++ (l.Plain command, Done reply) ∷ []) ss (number + 1)) (sym n.steps) (step_more answered old.chronicle.steps.items number n.step (l.Plain command, Done reply) was.steps n.seated n.numbered (said n));
+        answers = one_more_answer timeout answered (l.Plain command, Done reply) was.answers tt;
+      }
+
+  pub command_refused : (command : Command) (refusal : Refusal) (moment : ℕ) → is_noted (Err refusal) ≡ true → new ≡ record old { disk = new.disk; chronicle = new.chronicle; closed = new.closed }
+      → Notes 1 number command (Err refusal) (Some (lists_of old.chronicle)) (Some (lists_of new.chronicle)) → IsPlaying timeout (answered ++ (l.Plain command, Refused refusal) ∷ []) (number + 1) new
+  command_refused command refusal moment taken went notes =
+      let n = noted number command (Err refusal) false old.appended moment (lists_of old.chronicle) (lists_of new.chronicle) taken notes in
+      let x : Answered = (l.Plain command, Refused refusal) in
+      record {
+        numbers = subst (Numbers (answered ++ x ∷ [])) (sym went) (numbers_answered answered x _ old.clock old.clock old.appended old.durable old.since (was.numbers.time ∙ sym (same_clock answered x refl)) refl (inl refl) (first_flushed false n.receipts (more_receipts _ _ n.receipts old.durable was.numbers.last)));
+        steps = subst (λ ss. AreSteps (answered ++ x ∷ []) ss (number + 1)) (sym n.steps) (step_more answered old.chronicle.steps.items number n.step x was.steps n.seated n.numbered (said n));
+        answers = one_more_answer timeout answered x was.answers tt;
+      }
+
+  pub tick_answered : (now count moment : ℕ) → timeout ≡ old.config.buffer_timeout → count ≡ new.durable → new ≡ record (behind_tick now old) { disk = new.disk; chronicle = new.chronicle }
+      → Some (lists_of new.chronicle) ≡ receipted (must_flush (at_clock now old)) old.appended moment (Some (lists_of old.chronicle)) → IsLastCount new.durable new.chronicle.receipts.items → IsPlaying timeout (answered ++ (l.Tick now, Done (Durable count)) ∷ []) number new
+  tick_answered now count moment time is went receipt last = by (must_flush (at_clock now old)) refl where
+    lists : (new.chronicle.steps.items ≡ old.chronicle.steps.items) × Grows old.chronicle.receipts.items new.chronicle.receipts.items
+    lists = flushed_lists (must_flush (at_clock now old)) old.appended moment (lists_of old.chronicle) (lists_of new.chronicle) receipt
+
+    later : max old.clock now ≡ clock_of (answered ++ (l.Tick now, Done (Durable count)) ∷ [])
+    later = ap (λ k. max k now) was.numbers.time ∙ sym (later_clock answered (l.Tick now, Done (Durable count)) now refl)
+
+    receipted_now : IsReceipted new.chronicle.receipts.items new.durable
+    receipted_now = last_receipted new.durable new.chronicle.receipts.items last
+
+    by : (b : Bool) → must_flush (at_clock now old) ≡ b → IsPlaying timeout (answered ++ (l.Tick now, Done (Durable count)) ∷ []) number new
+    by true here =
+        let gone : new ≡ record (flushed (at_clock now old)) { disk = new.disk; chronicle = new.chronicle } = went ∙ ap (λ b. record (cond b (flushed (at_clock now old)) (at_clock now old)) { disk = new.disk; chronicle = new.chronicle }) here in
+        let all : count ≡ old.appended = is ∙ ap (λ (e : EngineOf D Kept). e.durable) gone in
+        record {
+          numbers = subst (Numbers (answered ++ (l.Tick now, Done (Durable count)) ∷ [])) (sym gone) (numbers_answered answered (l.Tick now, Done (Durable count)) _ old.clock (max old.clock now) old.appended old.appended None later refl (inr (ap Some all)) (first_flushed true lists.1 (subst (IsReceipted new.chronicle.receipts.items) (ap (λ (e : EngineOf D Kept). e.durable) gone) receipted_now)));
+          steps = subst (λ ss. AreSteps (answered ++ (l.Tick now, Done (Durable count)) ∷ []) ss number) (sym lists.0) (steps_same answered old.chronicle.steps.items number (l.Tick now, Done (Durable count)) was.steps refl);
+          answers = one_more_answer timeout answered (l.Tick now, Done (Durable count)) was.answers (subst (λ (n : ℕ). IsTicked timeout answered now n) (sym all) (tick_flushes timeout answered _ old.clock old.appended old.durable now old.since was.numbers));
+        }
+    by false here =
+        let gone : new ≡ record (at_clock now old) { disk = new.disk; chronicle = new.chronicle } = went ∙ ap (λ b. record (cond b (flushed (at_clock now old)) (at_clock now old)) { disk = new.disk; chronicle = new.chronicle }) here in
+        let same : count ≡ old.durable = is ∙ ap (λ (e : EngineOf D Kept). e.durable) gone in
+        record {
+          numbers = subst (Numbers (answered ++ (l.Tick now, Done (Durable count)) ∷ [])) (sym gone) (numbers_answered answered (l.Tick now, Done (Durable count)) _ old.clock (max old.clock now) old.appended old.durable old.since later refl (inr (ap Some same)) (first_flushed false lists.1 (more_receipts _ _ lists.1 old.durable was.numbers.last)));
+          steps = subst (λ ss. AreSteps (answered ++ (l.Tick now, Done (Durable count)) ∷ []) ss number) (sym lists.0) (steps_same answered old.chronicle.steps.items number (l.Tick now, Done (Durable count)) was.steps refl);
+          answers = one_more_answer timeout answered (l.Tick now, Done (Durable count)) was.answers (subst (λ (n : ℕ). IsTicked timeout answered now n) (sym same) (tick_waits timeout answered _ old.clock old.appended old.durable now old.since (ap (λ (t : ℕ). is_due (max old.clock now) t old.since) time ∙ here) was.numbers));
+        }
+
+plain_built : (command : Command) → IsTrue (is_built (l.Plain command)) → IsPlainCommand command
+plain_built (c.Add id user_type body) built = tt
+plain_built (c.Update id user_type body) built = tt
+plain_built (c.Delete id) built = tt
+plain_built c.Flush built = tt
+plain_built c.Begin built = absurd cc
+plain_built (c.AddTx tx id user_type body) built = absurd cc
+plain_built (c.UpdateTx tx id user_type body) built = absurd cc
+plain_built (c.DeleteTx tx id body) built = absurd cc
+plain_built (c.Prepare tx extra) built = absurd cc
+plain_built (c.Commit tx) built = absurd cc
+plain_built (c.Rollback tx) built = absurd cc
+
+-- a command that a replay takes is of no transaction
+pub built_kind : (line : Line) (command : Command) → IsTrue (is_built line) → line ≡ l.Plain command → IsPlainCommand command
+built_kind line command built is = plain_built command (subst (λ (x : Line). IsTrue (is_built x)) is built)

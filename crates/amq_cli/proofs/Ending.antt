@@ -1,0 +1,141 @@
+-- How a replay goes on by a line, and how it ends.
+use Rattle.std.proofs.Common.{◌≡◌, ◌⊎◌, inl, inr, ℕ, ◌+◌, ◌-◌, ◌≤◌, Bool, true, false, List, [], ◌∷◌, ◌++◌, length, take, map, Option, None, Some, refl, sym, ap, subst, ◌∙◌, append_assoc, arith}
+use Rattle.std.specs.Prelude.{All, Result, Err, reverse}
+use Rattle.std.proofs.lemmas.List.{append-nil, length-append, length-map, length-take, length-take-le, map-append, take-append-le, take_all, reverse-append}
+use Rattle.std.proofs.lemmas.Grind.{flat_map-append}
+use Rattle.amq_model.specs.declared.script.Line.{Line}
+use Rattle.amq_model.specs.declared.history.Answer.{Answer}
+use Rattle.amq_model.specs.declared.history.Answer.TheVariants.{Refused}
+use Rattle.amq_model.specs.declared.history.Step.{Step}
+use Rattle.amq_model.specs.declared.refusal.DiskCall.{DiskCall}
+use Rattle.amq_model.specs.declared.refusal.Refusal.{Refusal}
+use Rattle.amq_model.specs.declared.refusal.Refusal.TheVariants as r
+use Rattle.amq_model.specs.Texts.{reply_line, refusal_line}
+use Rattle.amq_engine.specs.declared.chronicle.Kept.{Kept}
+use Rattle.amq_engine.specs.declared.chronicle.Receipted.{Receipted}
+use Rattle.amq_engine.specs.Lists.{Lists}
+use Rattle.amq_engine.specs.Engine.{EngineOf, is_noted, IsFlushRefusal}
+use Rattle.amq_cli.specs.Offline.{lists_of}
+use Rattle.amq_cli.specs.Replay.{Answered, reply_lines, AreAnswered, HasEnded, HasReplayed, IsLast, is_for_memory}
+use Rattle.amq_cli.specs.Playing.{IsPlaying, HasPlayed}
+
+-- a refusal that isn't an answer, of a journal that isn't closed
+pub last_of_command : (refusal : Refusal) → is_noted (Err refusal) ≡ false → ((call : DiskCall) → refusal ≡ r.Closed call → ⊥) → IsLast refusal
+last_of_command (r.Closed call) ends unclosed = absurd (unclosed call refl)
+last_of_command (r.Disk call) ends unclosed = tt
+last_of_command r.NoMemory ends unclosed = tt
+last_of_command (r.TooLarge len limit) ends unclosed = absurd cc
+last_of_command (r.NoTx tx) ends unclosed = absurd cc
+last_of_command (r.TxPrepared tx) ends unclosed = absurd cc
+last_of_command (r.Held id tx) ends unclosed = absurd cc
+last_of_command (r.AlreadyLive id) ends unclosed = absurd cc
+last_of_command (r.NoRecord id) ends unclosed = absurd cc
+last_of_command (r.TxNumbersSpent highest) ends unclosed = absurd cc
+last_of_command (r.Compacting phase) ends unclosed = absurd cc
+last_of_command (r.FileIdsSpent highest) ends unclosed = absurd cc
+last_of_command (r.FileFull len left) ends unclosed = absurd cc
+
+pub last_of_tick : (refusal : Refusal) → IsFlushRefusal refusal → ((call : DiskCall) → refusal ≡ r.Closed call → ⊥) → IsLast refusal
+last_of_tick (r.Closed call) is unclosed = absurd (unclosed call refl)
+last_of_tick (r.Disk call) is unclosed = tt
+last_of_tick r.NoMemory is unclosed = tt
+last_of_tick (r.TooLarge len limit) is unclosed = absurd is
+last_of_tick (r.NoTx tx) is unclosed = absurd is
+last_of_tick (r.TxPrepared tx) is unclosed = absurd is
+last_of_tick (r.Held id tx) is unclosed = absurd is
+last_of_tick (r.AlreadyLive id) is unclosed = absurd is
+last_of_tick (r.NoRecord id) is unclosed = absurd is
+last_of_tick (r.TxNumbersSpent highest) is unclosed = absurd is
+last_of_tick (r.Compacting phase) is unclosed = absurd is
+last_of_tick (r.FileIdsSpent highest) is unclosed = absurd is
+last_of_tick (r.FileFull len left) is unclosed = absurd is
+
+lines_more : (answered : List Answered) (x : Answered) → reply_lines (answered ++ x ∷ []) ≡ reply_lines answered ++ reply_line x.1
+lines_more answered x = flat_map-append (λ (x : Answered). reply_line x.1) answered (x ∷ []) ∙ ap (λ (t : List ℕ). reply_lines answered ++ t) (append-nil (reply_line x.1))
+
+module _ {D : Type 0} (timeout : ℕ) where
+  -- what was played is a front of any script that goes on with these lines
+  are_answered : (done more : List Line) (number : ℕ) (answered : List Answered) (e : EngineOf D Kept) → map (λ x. x.0) answered ≡ done → IsPlaying timeout answered number e → AreAnswered timeout (done ++ more) e.chronicle.steps.items e.chronicle.receipts.items answered
+  are_answered done more number answered e lines playing = record {
+    front = lines ∙ sym (take_all (length answered) done (omega (arith, long))) ∙ sym (take-append-le (length answered) done more (omega (arith, long)));
+    commands = playing.steps.commands;
+    numbered = playing.steps.numbered;
+    receipted = playing.numbers.receipted;
+    answers = playing.answers;
+  } where
+    long : length answered ≡ length done
+    long = sym (length-map answered (λ (x : Answered). x.0)) ∙ ap length lines
+
+  -- a line was answered, and its text written
+  pub line_played : (done : List Line) (line : Line) (answer : Answer) (number number' : ℕ) (old new : EngineOf D Kept) (before after : List ℕ) → HasPlayed timeout done number old before
+      → ((answered : List Answered) → IsPlaying timeout answered number old → IsPlaying timeout (answered ++ (line, answer) ∷ []) number' new) → after ≡ before ++ reply_line answer → HasPlayed timeout (done ++ line ∷ []) number' new after
+  line_played done line answer number number' old new before after was goes is = record {
+    answered = was.answered ++ (line, answer) ∷ [];
+    lines = map-append (λ (x : Answered). x.0) was.answered ((line, answer) ∷ []) ∙ ap (λ (ls : List Line). ls ++ line ∷ []) was.lines;
+    playing = goes was.answered was.playing;
+    is = is ∙ ap (λ (t : List ℕ). t ++ reply_line answer) was.is ∙ sym (lines_more was.answered (line, answer));
+  }
+
+  -- a line was answered, and there was no memory for its text
+  pub line_unwritten : (done : List Line) (line : Line) (answer : Answer) (number number' : ℕ) (old new : EngineOf D Kept) (before after : List ℕ) → HasPlayed timeout done number old before
+      → ((answered : List Answered) → IsPlaying timeout answered number old → IsPlaying timeout (answered ++ (line, answer) ∷ []) number' new) → after ≡ before → HasEnded timeout (done ++ line ∷ []) new.chronicle.steps.items new.chronicle.receipts.items after [] true
+  line_unwritten done line answer number number' old new before after was goes is =
+      let all : List Answered = was.answered ++ (line, answer) ∷ [] in
+      let lines : map (λ (x : Answered). x.0) all ≡ done ++ line ∷ [] = map-append (λ (x : Answered). x.0) was.answered ((line, answer) ∷ []) ∙ ap (λ (ls : List Line). ls ++ line ∷ []) was.lines in
+      record {
+        answered = all;
+        are = subst (λ (ls : List Line). AreAnswered timeout ls new.chronicle.steps.items new.chronicle.receipts.items all) (append-nil (done ++ line ∷ [])) (are_answered (done ++ line ∷ []) [] number' all new lines (goes was.answered was.playing));
+        rest = reply_line answer;
+        is = ap (λ (t : List ℕ). t ++ reply_line answer) (is ∙ was.is) ∙ sym (lines_more was.answered (line, answer)) ∙ sym (append-nil (reply_lines all));
+        whole = inl refl;
+      }
+
+  -- a line ended the replay
+  pub line_refused : (done : List Line) (line : Line) (number : ℕ) (old new : EngineOf D Kept) (before after ending : List ℕ) (short : Bool) → HasPlayed timeout done number old before → lists_of new.chronicle ≡ lists_of old.chronicle → after ≡ before ++ ending
+      → HasEnded timeout (done ++ line ∷ []) new.chronicle.steps.items new.chronicle.receipts.items after ending short
+  line_refused done line number old new before after ending short was kept is =
+      let are = are_answered done (line ∷ []) number was.answered old was.lines was.playing in
+      record {
+        answered = was.answered;
+        are = subst (λ (l : Lists). AreAnswered timeout (done ++ line ∷ []) l.steps l.receipts was.answered) (sym kept) are;
+        rest = [];
+        is = append-nil after ∙ is ∙ ap (λ (t : List ℕ). t ++ ending) was.is;
+        whole = inr refl;
+      }
+
+  -- all lines were answered
+  pub all_played : (done : List Line) (number : ℕ) (e : EngineOf D Kept) (text : List ℕ) → HasPlayed timeout done number e text → HasReplayed timeout done e.chronicle.steps.items e.chronicle.receipts.items text
+  all_played done number e text p = record {
+    answered = p.answered;
+    are = subst (λ (ls : List Line). AreAnswered timeout ls e.chronicle.steps.items e.chronicle.receipts.items p.answered) (append-nil done) (are_answered done [] number p.answered e p.lines p.playing);
+    all = sym (length-map p.answered (λ (x : Answered). x.0)) ∙ ap length p.lines;
+    is = p.is;
+  }
+
+-- one line is taken from those that are left, the next one at the end
+pub one_taken : (all done left rest : List Line) (line : Line) → left ≡ rest ++ line ∷ [] → done ++ reverse left ≡ all → (done ++ line ∷ []) ++ reverse rest ≡ all
+one_taken all done left rest line popped so_far =
+    append_assoc done (line ∷ []) (reverse rest) ∙ ap (λ (ls : List Line). done ++ ls) (sym (ap reverse popped ∙ reverse-append rest (line ∷ []))) ∙ so_far
+
+-- a journal that isn't closed isn't
+pub still_open : (closed : Option DiskCall) (call : DiskCall) → closed ≡ None → closed ≡ Some call → ⊥
+still_open closed call none is = let e : None ≡ Some call = sym none ∙ is in cc
+
+-- of a script that goes on
+pub ended_more : (timeout : ℕ) (front more : List Line) (steps : List Step) (receipts : List Receipted) (text ending : List ℕ) (short : Bool) → HasEnded timeout front steps receipts text ending short → HasEnded timeout (front ++ more) steps receipts text ending short
+ended_more timeout front more steps receipts text ending short e =
+    let long : length e.answered ≤ length front = omega (arith, sym (length-map e.answered (λ (x : Answered). x.0)), ap length e.are.front, length-take (length e.answered) front) in
+    record {
+      answered = e.answered;
+      are = record {
+        front = e.are.front ∙ sym (take-append-le (length e.answered) front more long);
+        commands = e.are.commands;
+        numbered = e.are.numbered;
+        receipted = e.are.receipted;
+        answers = e.are.answers;
+      };
+      rest = e.rest;
+      is = e.is;
+      whole = e.whole;
+    }
+

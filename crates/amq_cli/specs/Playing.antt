@@ -1,0 +1,40 @@
+-- What is so of a replay under way.
+use Rattle.std.specs.Prelude.{◌≡◌, ◌↔◌, ℕ, ◌+◌, ◌<◌, ◌≤◌, List, [], ◌∷◌, ◌++◌, length, map, Option, None, Some, All}
+use Rattle.std.specs.List.{filter_map}
+use Rattle.amq_model.specs.declared.script.Line.{Line}
+use Rattle.amq_model.specs.declared.history.Step.{Step}
+use Rattle.amq_engine.specs.declared.chronicle.Kept.{Kept}
+use Rattle.amq_engine.specs.declared.chronicle.Receipted.{Receipted}
+use Rattle.amq_engine.specs.Engine.{EngineOf}
+use Rattle.amq_cli.specs.Replay.{Answered, commanded, placed_at, counted, clock_of, reply_lines, AreLineAnswers, AreNumbered, IsReceipted}
+
+-- The numbers of the engine behind these lines: its clock, how many appends there were and how many are durable, and since when the first of the others waits.
+pub record AreNumbers (answered : List Answered) (receipts : List Receipted) (clock appended durable : ℕ) (since : Option ℕ) : Type 0 where
+  pub time : clock ≡ clock_of answered
+  pub count : appended ≡ length (filter_map placed_at answered)
+  pub below : All (λ place. place < appended) (filter_map placed_at answered)
+  pub most : durable ≤ appended
+  pub waits : (since ≡ None) ↔ (durable ≡ appended)
+  pub first : (moment : ℕ) → since ≡ Some moment → (front : List Answered) (x : Answered) (back : List Answered) → answered ≡ front ++ x ∷ back → placed_at x ≡ Some durable → moment ≡ clock_of front
+  pub counts : All (λ count. count ≤ durable) (filter_map counted answered)
+  pub receipted : All (IsReceipted receipts) (filter_map counted answered)
+  pub last : IsReceipted receipts durable
+
+-- The steps are those of these lines, and this is the number of the next one.
+pub record AreSteps (answered : List Answered) (steps : List Step) (number : ℕ) : Type 0 where
+  pub commands : map (λ s. (s.command, s.answer)) steps ≡ filter_map commanded answered
+  pub numbered : AreNumbered 1 steps
+  pub next : number ≡ length steps + 1
+
+-- these lines were answered
+pub record IsPlaying {D : Type 0} (timeout : ℕ) (answered : List Answered) (number : ℕ) (e : EngineOf D Kept) : Type 0 where
+  pub numbers : AreNumbers answered e.chronicle.receipts.items e.clock e.appended e.durable e.since
+  pub steps : AreSteps answered e.chronicle.steps.items number
+  pub answers : AreLineAnswers timeout [] answered
+
+-- so far these lines were answered, and the text has their lines
+pub record HasPlayed {D : Type 0} (timeout : ℕ) (done : List Line) (number : ℕ) (e : EngineOf D Kept) (text : List ℕ) : Type 0 where
+  pub answered : List Answered
+  pub lines : map (λ x. x.0) answered ≡ done
+  pub playing : IsPlaying timeout answered number e
+  pub is : text ≡ reply_lines answered
