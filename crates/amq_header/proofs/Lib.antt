@@ -1,0 +1,6 @@
+pub mod Digits
+pub mod Endings
+pub mod Spelled
+pub mod Made
+pub mod Exclusive
+pub mod HeaderLaws
