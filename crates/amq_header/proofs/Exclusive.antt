@@ -1,14 +1,13 @@
 -- A name has at most one class.
-use Rattle.std.proofs.Common.{◌≡◌, ℕ, ◌+◌, ◌-◌, arith, length, length-append, get_or, take, drop, Bool, true, false, List, [], ◌∷◌, ◌++◌, codes, Option, Some, None, refl, sym, ap, ◌∙◌}
+use Rattle.std.proofs.Common.{◌≡◌, ℕ, arith, Bool, true, false, List, codes, Option, Some, None, refl, sym, ap, ◌∙◌}
 use Rattle.std.specs.Prelude.{◌||◌, is_some}
 use Rattle.std.specs.Option.{option_and_then}
 use Rattle.std.proofs.lemmas.Option.{option_and_then_some}
-use Rattle.std.proofs.lemmas.Bool.{cases_Bool}
 use Rattle.amq_model.specs.Names.{same, before, behind, data_number, number_spelled, is_data, compacted_number, is_compacted, is_temporary, control_name}
 use Rattle.amq_header.specs.declared.classes.FileClass.{FileClass}
 use Rattle.amq_header.specs.declared.classes.FileClass.TheVariants.{DataFile, Compacted, Temporary, Control, Other}
 use Rattle.amq_header.specs.Classes.{IsOfClass, first_number, number_in, temporary_number}
-use Rattle.amq_header.proofs.Endings.{mark, mark_is, mark_behind, same_is, same_self}
+use Rattle.amq_header.proofs.Endings.{mark, mark_is, mark_behind, same_is}
 
 -- ---- the last byte but two tells the classes with a number apart
 

@@ -1,22 +1,15 @@
 -- A header that is written is the header that is read.
-use Rattle.std.proofs.Common.{◌≡◌, ℕ, ◌+◌, ◌-◌, ◌^◌, ◌<◌, ◌≤◌, Bool, true, false, cond, leb, List, [], ◌∷◌, ◌++◌, length, take, drop, Option, Some, None, refl, sym, ap, ◌∙◌, append_assoc, subst, arith, length-append}
-use Rattle.std.specs.Int.{w32, w64, from_be_bytes, to_be_bytes}
+use Rattle.std.proofs.Common.{◌≡◌, ℕ, ◌+◌, ◌^◌, ◌<◌, ◌≤◌, Bool, true, false, cond, leb, List, [], ◌++◌, length, take, drop, Some, None, refl, sym, ap, ◌∙◌, append_assoc, subst, arith, length-append}
+use Rattle.std.specs.Int.{w32, w64, from_be_bytes}
 use Rattle.std.proofs.lemmas.Bool.{le-leb, leb-true}
 use Rattle.std.proofs.lemmas.List.{take_at, drop_at, drop-drop, length-take, length-drop, take-append-drop, take-take, drop-take}
 use Rattle.std.proofs.lemmas.Nat.{be_bytes_4, be_bytes_8, from_be_bytes-to_be_bytes_4, from_be_bytes-to_be_bytes_8}
 use Rattle.amq_model.specs.RecordAt.{long, word, IsBytes}
 use Rattle.amq_model.specs.Directory.{file_of}
 use Rattle.amq_record.proofs.Fields.{IsBytes-drop, IsBytes-take}
+use Rattle.amq_record.proofs.Lengths.{length_long, length_word}
 use Rattle.amq_header.specs.declared.header.Header.{Header}
 use Rattle.amq_header.specs.Headers.{IsHeader, header_of, header_bytes, header_in}
-
-length_word : (n : ℕ) → length (word n) ≡ 4
-unfolding word
-length_word n = refl
-
-length_long : (n : ℕ) → length (long n) ≡ 8
-unfolding long
-length_long n = refl
 
 -- the fields that stand at the head of a file
 pub record Stands (bytes : List ℕ) (h : Header) : Type 0 where

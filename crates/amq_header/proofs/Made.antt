@@ -1,5 +1,5 @@
 -- The names that are made: their form, and what is read in them.
-use Rattle.std.proofs.Common.{◌≡◌, ℕ, zero, suc, ◌+◌, ◌^◌, ◌<◌, ◌≤◌, Bool, T, ltb, List, [], ◌∷◌, ◌++◌, length, codes, Option, Some, refl, sym, ap, ◌∙◌, ltb→lt, lit<, append_assoc, arith, length-append}
+use Rattle.std.proofs.Common.{◌≡◌, ℕ, zero, suc, ◌+◌, ◌^◌, ◌<◌, ◌≤◌, T, ltb, List, [], ◌∷◌, ◌++◌, length, codes, Option, Some, refl, sym, ap, ◌∙◌, ltb→lt, lit<, append_assoc, arith, length-append}
 use Rattle.std.specs.List.{list_all}
 use Rattle.std.specs.Option.{option_and_then}
 use Rattle.std.specs.Str.{IsAscii}
@@ -7,7 +7,7 @@ use Rattle.std.specs.Fmt.{decimal}
 use Rattle.std.proofs.lemmas.Fmt.{IsAscii-decimal, length-decimal-le}
 use Rattle.std.proofs.lemmas.Str.{IsAscii-append}
 use Rattle.amq_model.specs.Name.{HasNameForm}
-use Rattle.amq_model.specs.Names.{same, before, data_number, compacted_number, number_spelled, control_name}
+use Rattle.amq_model.specs.Names.{same, data_number, compacted_number, number_spelled, control_name}
 use Rattle.amq_model.proofs.Literals.{one, other}
 use Rattle.amq_header.specs.Classes.{first_number, number_in, temporary_number, data_name, compacted_name, temporary_name}
 use Rattle.amq_header.proofs.Endings.{before_appended}

@@ -1,5 +1,4 @@
-use Rattle.std.proofs.Common.{◌≡◌, List, ℕ, sym, subst, ◌∙◌}
-use Rattle.std.specs.Prelude.{IfOk}
+use Rattle.std.proofs.Common.{sym, subst, ◌∙◌}
 use Rattle.amq_model.specs.Name.{HasNameForm}
 use Rattle.amq_header.proofs.Made.{data_form}
 use Rattle.amq_header.proofs.names.data_name.Goals as goal

@@ -1,0 +1,5 @@
+pub mod Preparing
+pub mod Numbers
+pub mod Contents
+pub mod Nothing
+pub mod Queue

@@ -1,0 +1,3 @@
+pub mod Prepare
+pub mod Faults
+pub mod Pools
