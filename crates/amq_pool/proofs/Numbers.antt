@@ -1,9 +1,9 @@
 -- Ids that ascend.
-use Rattle.std.proofs.Common.{ℕ, ◌+◌, ◌-◌, ◌^◌, ◌<◌, ◌≤◌, List, [], ◌∷◌, ◌++◌, length, arith}
+use Rattle.std.proofs.Common.{ℕ, ◌+◌, ◌<◌, ◌≤◌, List, [], ◌∷◌, ◌++◌, length, arith}
 use Rattle.std.specs.Prelude.{All}
 use Rattle.std.proofs.lemmas.List.Elements.{All-nil, All-cons}
-use Rattle.amq_model.specs.declared.config.Config.{Config}
-use Rattle.amq_pool.specs.Pools.{PoolOf, IsPool, AscendWithin, with_next}
+use Rattle.amq_pool.specs.declared.pool.PoolFile.{PoolFile}
+use Rattle.amq_pool.specs.Pools.{AscendWithin, ids_of}
 
 -- one more behind them
 pub push : (low high id top : ℕ) (ids : List ℕ) → AscendWithin low ids high → high < id → id ≤ top → AscendWithin low (ids ++ id ∷ []) top
@@ -15,24 +15,12 @@ pub lower : (low first high : ℕ) (ids : List ℕ) → low ≤ first → Ascend
 lower low first high [] le rises = omega arith
 lower low first high (x ∷ ids) le rises = (omega (arith, rises.0), rises.1)
 
--- each is above the first number
-pub above : (low first high : ℕ) (ids : List ℕ) → low ≤ first → AscendWithin first ids high → All (λ id. low < id) ids
-above low first high [] le rises = All-nil (λ id. low < id)
-above low first high (x ∷ ids) le rises = All-cons (λ id. low < id) x ids (omega (arith, rises.0)) (above low x high ids (omega (arith, rises.0)) rises.1)
+-- each file's id is above the first number
+pub above : (low first high : ℕ) (files : List PoolFile) → low ≤ first → AscendWithin first (ids_of files) high → All (λ f. low < f.id) files
+above low first high [] le rises = All-nil (λ f. low < f.id)
+above low first high (x ∷ files) le rises = All-cons (λ f. low < f.id) x files (omega (arith, rises.0)) (above low x.id high files (omega (arith, rises.0)) rises.1)
 
 -- there are no more of them than numbers
-pub few : (low high : ℕ) (ids : List ℕ) → AscendWithin low ids high → low + length ids ≤ high
+pub few : (low high : ℕ) (files : List PoolFile) → AscendWithin low (ids_of files) high → low + length files ≤ high
 few low high [] rises = omega arith
-few low high (x ∷ ids) rises = omega (arith, rises.0, few x high ids rises.1)
-
--- the pool with one more file
-pub next_is : (p : PoolOf) → IsPool p → p.highest < 2 ^ 31 - 1 → IsPool (with_next p)
-next_is p is room = record {
-  config = is.config;
-  given = push 0 p.highest (p.highest + 1) (p.highest + 1) p.prepared is.given (omega arith) (omega arith);
-  numbers = push 0 p.highest (p.highest + 1) (2 ^ 31 - 1) p.prepared is.given (omega arith) (omega arith);
-}
-
--- the pool without its first file
-pub rest_is : (config : Config) (highest id : ℕ) (ids : List ℕ) → IsPool (record { config = config; highest = highest; prepared = id ∷ ids }) → IsPool (record { config = config; highest = highest; prepared = ids })
-rest_is config highest id ids is = record { config = is.config; given = lower 0 id highest ids (omega arith) is.given.1; numbers = lower 0 id (2 ^ 31 - 1) ids (omega arith) is.numbers.1 }
+few low high (x ∷ files) rises = omega (arith, rises.0, few x.id high files rises.1)

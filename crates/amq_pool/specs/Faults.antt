@@ -1,5 +1,5 @@
 -- Why a pool gives no file.
-use Rattle.std.specs.Prelude.{◌≡◌, ◌≤◌, Some, Result, Ok, Err}
+use Rattle.std.specs.Prelude.{◌≡◌, ℕ, ◌-◌, ◌^◌, ◌≤◌, Some, Result, Ok, Err}
 use Rattle.amq_io.specs.Cause.{Rose, Faults}
 use Rattle.amq_io.specs.declared.faults.DiskFault.{DiskFault}
 use Rattle.amq_io.specs.declared.faults.DiskFault.TheVariants as f
@@ -24,9 +24,10 @@ OnPoolMemory (Err (FileIdsSpent highest)) P = Unit {0}
 OnPoolMemory (Err (Disk call)) P = Unit {0}
 OnPoolMemory (Err NoMemory) P = P
 
--- What making a file may answer: a failed call only where the count rose in it, and then the call that failed last.
-abbrev pub HasPoolFault : {T : Type 0} → Result T PoolFault → Faults → Faults → Type 0
-HasPoolFault (Ok x) old new = (old.0 ≤ new.0) × (new.1 ≡ old.1)
-HasPoolFault (Err (FileIdsSpent highest)) old new = new ≡ old
-HasPoolFault (Err (Disk call)) old new = Rose old.0 new.0 × (old.0 ≤ new.0) × (new.1 ≡ Some call)
-HasPoolFault (Err NoMemory) old new = (old.0 ≤ new.0) × (new.1 ≡ old.1)
+-- What a pool may answer whose greatest number is this: that the numbers are spent only where they are, and a failed
+-- call only where the count rose in it, and then the call that failed last.
+abbrev pub HasPoolFault : {T : Type 0} → ℕ → Result T PoolFault → Faults → Faults → Type 0
+HasPoolFault greatest (Ok x) old new = (old.0 ≤ new.0) × (new.1 ≡ old.1)
+HasPoolFault greatest (Err (FileIdsSpent highest)) old new = (highest ≡ greatest) × (2 ^ 31 - 1 ≤ greatest) × (new ≡ old)
+HasPoolFault greatest (Err (Disk call)) old new = Rose old.0 new.0 × (old.0 ≤ new.0) × (new.1 ≡ Some call)
+HasPoolFault greatest (Err NoMemory) old new = (old.0 ≤ new.0) × (new.1 ≡ old.1)

@@ -3,7 +3,6 @@ ghost use Rattle.std.specs.Prelude.{◌≡◌, ◌↔◌, ◌+◌, ◌-◌, ◌^
 ghost use Rattle.amq_model.specs.Configs.{IsConfig};
 ghost use Rattle.amq_model.specs.Calls.{counted};
 ghost use Rattle.amq_model.specs.Leaves.{Leaves};
-ghost use Rattle.amq_header.specs.Classes.{data_name};
 ghost use Rattle.amq_pool.specs.Faults.{HasPoolFault, OnPoolMemory};
 ghost use Rattle.amq_pool.specs.Pools.{IsPool, with_next, with_first, Making, Made, Unmade};
 
@@ -37,15 +36,13 @@ pub struct Pool {
 }
 
 impl Model for Pool {
-    ghost use Rattle.std.specs.Prelude.{◌≡◌, map, All};
-    ghost use Rattle.amq_header.specs.Classes.{data_name};
     ghost use Rattle.amq_pool.specs.Pools.{PoolOf, IsPool};
 
     ghost Value = { PoolOf };
 
-    ghost view = { λ p. record { config = p.config; highest = p.highest; prepared = map (λ f. f.id) p.prepared.items } };
+    ghost view = { λ p. record { config = p.config; highest = p.highest; prepared = p.prepared.items } };
 
-    ghost invariant = { λ p. All (λ f. f.name ≡ data_name f.id) p.prepared.items × IsPool (record { config = p.config; highest = p.highest; prepared = map (λ f. f.id) p.prepared.items }) };
+    ghost invariant = { λ p. IsPool (record { config = p.config; highest = p.highest; prepared = p.prepared.items }) };
 }
 
 impl Pool {
@@ -71,12 +68,12 @@ impl Pool {
         ensures is { IsPool self.new }
         ensures prepared { OnOk result (self.new ≡ with_next self.old) }
         ensures unchanged { OnErr result (self.new ≡ self.old) }
-        ensures spent { (result ≡ Err (PoolFault.FileIdsSpent self.old.highest)) ↔ (2 ^ 31 - 1 ≤ self.old.highest) }
+        ensures spent { 2 ^ 31 - 1 ≤ self.old.highest → result ≡ Err (PoolFault.FileIdsSpent self.old.highest) }
         ensures no_call { 2 ^ 31 - 1 ≤ self.old.highest → disk.new ≡ disk.old }
         ensures crash { Leaves (Making self.old.config (self.old.highest + 1)) (Making self.old.config (self.old.highest + 1)) (D.past disk.old) (D.past disk.new) }
         ensures ok { OnOk result (Leaves (Making self.old.config (self.old.highest + 1)) (Made self.old.config (self.old.highest + 1)) (D.past disk.old) (D.past disk.new)) }
         ensures memory { OnPoolMemory result (Leaves (Making self.old.config (self.old.highest + 1)) (Unmade (self.old.highest + 1)) (D.past disk.old) (D.past disk.new)) }
-        ensures cause { HasPoolFault result (D.faults disk.old) (D.faults disk.new) }
+        ensures cause { HasPoolFault self.old.highest result (D.faults disk.old) (D.faults disk.new) }
         ensures four { OnOk result (D.moment disk.new ≡ counted (counted (counted (counted (D.moment disk.old))))) }
         ensures later { D.moment disk.old ≤ D.moment disk.new }
         ensures calls { D.moment disk.new ≤ D.moment disk.old + 4 }
@@ -99,9 +96,8 @@ impl Pool {
     /// The prepared file with the least id; `None` where there is none.
     pub fn take(&mut self) -> Option<PoolFile>
         ensures is { IsPool self.new }
-        ensures file { MatchOption result ((self.old.prepared ≡ []) × (self.new ≡ self.old)) (λ file. self.old ≡ with_first file.id self.new) }
-        ensures name { IfSome result (λ file. file.name ≡ data_name file.id) }
-        ensures least { IfSome result (λ file. All (λ id. file.id < id) self.new.prepared) }
+        ensures file { MatchOption result ((self.old.prepared ≡ []) × (self.new ≡ self.old)) (λ file. self.old ≡ with_first file self.new) }
+        ensures least { IfSome result (λ file. All (λ other. file.id < other.id) self.new.prepared) }
     {
         self.prepared.pop_front()
     }
