@@ -4,3 +4,4 @@ pub mod Spelled
 pub mod Made
 pub mod Exclusive
 pub mod HeaderLaws
+pub mod Examples

@@ -3,3 +3,4 @@ pub mod Numbers
 pub mod Contents
 pub mod Nothing
 pub mod Queue
+pub mod Examples
