@@ -1,5 +1,5 @@
 -- A command that is accepted: the buffer made ready, and the record put.
-use Rattle.std.proofs.Common.{◌≡◌, ℕ, ◌+◌, ◌-◌, ◌^◌, ◌<◌, ◌≤◌, Bool, true, false, cond, ltb, List, [], ◌∷◌, ◌++◌, length, Option, None, Some, refl, sym, ap, subst, ◌∙◌, arith}
+use Rattle.std.proofs.Common.{◌≡◌, ℕ, ◌+◌, ◌^◌, ◌<◌, Bool, true, false, cond, ltb, [], ◌∷◌, length, Option, None, Some, refl, sym, ap, ◌∙◌, arith}
 use Rattle.std.specs.Prelude.{IfSome, IsSome, is_some, option_map, ◌||◌, ◌&&◌, Ok}
 use Rattle.std.proofs.lemmas.Bool.{ltb-false}
 use Rattle.std.proofs.lemmas.List.{length-append}
@@ -20,7 +20,7 @@ use Rattle.amq_record.proofs.Records.{length_spelling}
 use Rattle.amq_buffer.specs.Buffered.{Buffered, begun}
 use Rattle.amq_engine.specs.declared.tail.Tail.{Tail}
 use Rattle.amq_engine.specs.Lists.{Lists, with_step}
-use Rattle.amq_engine.specs.Engine.{EngineOf, Notes, receipted, id_refused, full, refused, reply_to, reply_of, end_of_tail, with_put, written_out, readied, is_without_room, is_flush, overflows, flushes, flushed, with_record, behind_command}
+use Rattle.amq_engine.specs.Engine.{EngineOf, Notes, receipted, id_refused, full, refused, reply_to, reply_of, end_of_tail, with_put, written_out, readied, is_without_room, overflows, flushes, flushed, with_record, behind_command}
 use Rattle.amq_engine.proofs.History.{bare_is, appending_is}
 use Rattle.amq_engine.proofs.Flushing.{seen, seen_flushed}
 

@@ -1,6 +1,6 @@
 -- What a journal leaves whose appends are all durable.
 use Rattle.std.proofs.Common.{◌≡◌, ℕ, Bool, List, ◌++◌, length, take, Option, None, Some, refl, sym, ap, subst, ◌∙◌}
-use Rattle.std.specs.Prelude.{IfSome, IfOk, OnOk, All, Result, Ok, Err}
+use Rattle.std.specs.Prelude.{IfSome, OnOk, All, Result, Ok, Err}
 use Rattle.std.proofs.lemmas.List.{take_at, take_all}
 use Rattle.amq_model.specs.declared.config.Config.{Config}
 use Rattle.amq_model.specs.declared.record.Placed.{Placed}

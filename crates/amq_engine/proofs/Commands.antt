@@ -1,8 +1,8 @@
 -- What is always so of an engine, through one command.
-use Rattle.std.proofs.Common.{◌≡◌, ◌⊎◌, inl, inr, ℕ, ◌+◌, ◌-◌, ◌<◌, ◌≤◌, Bool, true, false, cond, ltb, List, [], ◌∷◌, ◌++◌, length, take, drop, Option, None, Some, refl, sym, ap, subst, ◌∙◌, arith}
-use Rattle.std.specs.Prelude.{IfSome, IsSome, All, option_map, Result, Ok, Err, OnOk, OnErr, is_err}
+use Rattle.std.proofs.Common.{◌≡◌, ℕ, ◌+◌, ◌-◌, ◌<◌, ◌≤◌, Bool, true, false, cond, ltb, List, [], ◌∷◌, ◌++◌, length, Option, None, Some, refl, sym, ap, subst, ◌∙◌, arith}
+use Rattle.std.specs.Prelude.{IfSome, All, option_map, Result, Ok, Err, OnOk, OnErr, is_err}
 use Rattle.std.proofs.lemmas.Bool.{ltb-false}
-use Rattle.std.proofs.lemmas.List.{length-append, take_all, drop_all, take-append-le, append-nil}
+use Rattle.std.proofs.lemmas.List.{length-append, take-append-le, append-nil}
 use Rattle.std.proofs.lemmas.List.Elements.{All-push}
 use Rattle.amq_model.specs.declared.record.Record.{Record}
 use Rattle.amq_model.specs.declared.record.Placed.{Placed}
@@ -24,7 +24,7 @@ use Rattle.amq_record.proofs.Records.{length_spelling}
 use Rattle.amq_buffer.specs.Buffered.{begun}
 use Rattle.amq_scan.proofs.Scans.{whole_len-pos}
 use Rattle.amq_model.specs.declared.history.Answer.{Answer}
-use Rattle.amq_scan.specs.Written.{Item, spelled, end_from}
+use Rattle.amq_scan.specs.Written.{Item, end_from}
 use Rattle.amq_engine.specs.Lists.{Lists, with_step}
 use Rattle.amq_engine.specs.OneFile.{header_of, placed_in}
 use Rattle.amq_engine.specs.declared.tail.Tail.{Tail}
@@ -32,7 +32,7 @@ use Rattle.amq_engine.specs.Engine.{data_name, IsPlainItem, IsTold, IsSound, IsV
 use Rattle.amq_engine.proofs.Texts.{text_grows, end_whole}
 use Rattle.amq_model.proofs.Keeping.{reads_weaker}
 use Rattle.amq_engine.proofs.Steps.{holds_grows}
-use Rattle.amq_engine.proofs.Receipts.{if_some, if_mapped, kept_grows}
+use Rattle.amq_engine.proofs.Receipts.{if_mapped, kept_grows}
 use Rattle.amq_engine.proofs.History.{behind, placed-snoc, length-placed, all_plain, end_placed, few_records, stands_next, answered_by, answer_is, history-snoc, legal-snoc, no_number_for, record_for_is, bare_is, appending_is}
 use Rattle.amq_engine.proofs.Sound.{Holding, all_durable}
 use Rattle.amq_engine.proofs.Recovering.{valid_safe, told_stepped}

@@ -1,5 +1,5 @@
 -- A journal through a flush.
-use Rattle.std.proofs.Common.{◌≡◌, ℕ, ◌+◌, ◌≤◌, Bool, cond, List, [], length, Option, None, Some, refl, sym, ap, subst, ◌∙◌, arith}
+use Rattle.std.proofs.Common.{◌≡◌, ℕ, ◌≤◌, Bool, cond, List, length, Option, None, Some, refl, ap, subst, ◌∙◌}
 use Rattle.std.specs.Prelude.{IfSome, option_map, is_some}
 use Rattle.amq_model.specs.declared.config.Config.{Config}
 use Rattle.amq_model.specs.Calls.{Past, counted}
@@ -9,7 +9,7 @@ use Rattle.amq_engine.specs.Lists.{Lists, with_receipt}
 use Rattle.amq_engine.specs.Puts.{Puts, Put}
 use Rattle.amq_engine.specs.declared.tail.Tail.{Tail}
 use Rattle.amq_model.specs.declared.refusal.DiskCall.{DiskCall}
-use Rattle.amq_engine.specs.Engine.{EngineOf, data_name, IsSound, IsValid, end_of_tail, written_out, flushed}
+use Rattle.amq_engine.specs.Engine.{EngineOf, data_name, IsSound, IsValid, written_out, flushed}
 use Rattle.amq_engine.proofs.Sound.{sound_failed, sound_put, put_out, all_durable}
 use Rattle.amq_engine.proofs.Recovering.{told_later, receipted_order, receipted_last}
 

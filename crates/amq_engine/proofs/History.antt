@@ -14,7 +14,7 @@ use Rattle.amq_model.specs.declared.history.Answer.{Answer}
 use Rattle.amq_model.specs.declared.history.Answer.TheVariants.{Done, Refused}
 use Rattle.amq_model.specs.declared.history.Step.{Step}
 use Rattle.amq_model.specs.declared.refusal.Refusal.{Refusal}
-use Rattle.amq_model.specs.RecordAt.{len_of, whole_len}
+use Rattle.amq_model.specs.RecordAt.{whole_len}
 use Rattle.amq_model.specs.Directory.{placed}
 use Rattle.amq_model.specs.Plain.{IsPlain, IsPlainCommand}
 use Rattle.amq_model.specs.Answers.{record_of, history_of, in_view, live_behind, too_large, id_refusal, refusal, first_some, accepted, answer}

@@ -1,4 +1,4 @@
-use Rattle.std.proofs.Common.{◌≡◌, ◌+◌, ℕ, List, length, sym, ap, subst}
+use Rattle.std.proofs.Common.{◌+◌, ℕ, List, length, sym, ap, subst}
 use Rattle.amq_engine.specs.declared.tail.Tail.{Tail}
 use Rattle.amq_engine.specs.Engine.{IsValid, end_of_tail, emptied}
 use Rattle.amq_engine.proofs.Flushing.{valid_put, valid_failed, tail_by}

@@ -1,5 +1,5 @@
-use Rattle.std.proofs.Common.{◌≡◌, sym, ap, subst, ◌∙◌}
-use Rattle.std.specs.Prelude.{IfSome, OnOk, ◌==◌}
+use Rattle.std.proofs.Common.{sym, ap, subst, ◌∙◌}
+use Rattle.std.specs.Prelude.{IfSome, ◌==◌}
 use Rattle.std.specs.HashSet.{contains}
 use Rattle.amq_model.specs.declared.config.Config.{Config}
 use Rattle.amq_model.specs.Answers.{history_of}

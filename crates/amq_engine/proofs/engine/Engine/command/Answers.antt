@@ -1,12 +1,12 @@
-use Rattle.std.proofs.Common.{◌≡◌, ◌⊎◌, inl, inr, ◌+◌, ◌≤◌, ℕ, Bool, false, length, List, [], Option, None, Some, sym, ap, subst, ◌∙◌, arith}
-use Rattle.std.specs.Prelude.{IfSome, IsSome, option_map, ◌==◌, ◌&&◌, is_ok, is_some, Ok, is_err}
+use Rattle.std.proofs.Common.{◌≡◌, inl, inr, ◌+◌, ◌≤◌, ℕ, false, length, List, [], Option, None, sym, ap, subst, ◌∙◌, arith}
+use Rattle.std.specs.Prelude.{IfSome, option_map, ◌==◌, ◌&&◌, is_some, Ok}
 use Rattle.std.specs.HashSet.{contains}
 use Rattle.amq_model.specs.declared.command.Reply.{Reply}
 use Rattle.amq_model.specs.declared.record.Placed.{Placed}
 use Rattle.amq_model.specs.declared.history.Answer.TheVariants.{Done}
 use Rattle.amq_engine.specs.declared.tail.Tail.{Tail}
 use Rattle.amq_engine.specs.Lists.{Lists, with_step}
-use Rattle.amq_engine.specs.Engine.{IsChronicle, IsValid, Notes, receipted, flushes, is_without_room, end_of_tail, readied, with_put, reply_of, placed_behind, refused, command_id}
+use Rattle.amq_engine.specs.Engine.{IsChronicle, IsValid, Notes, receipted, flushes, is_without_room, end_of_tail, with_put, reply_of, placed_behind, refused, command_id}
 use Rattle.amq_engine.proofs.Sound.{sound_there, sound_within, valid_live, valid_room}
 use Rattle.amq_engine.proofs.Flushing.{written_durable}
 use Rattle.amq_engine.proofs.Accepting.{room_is, end_readied, empty_readied, reply_is, seen_accepted, values_of, not_closed, noted_accepted}

@@ -1,4 +1,4 @@
-use Rattle.std.proofs.Common.{◌≡◌, sym, ap, subst, ◌∙◌}
+use Rattle.std.proofs.Common.{◌≡◌, subst}
 use Rattle.std.specs.Prelude.{IfSome, ◌==◌, ◌↔◌, Some, Err}
 use Rattle.std.specs.HashSet.{contains}
 use Rattle.amq_model.specs.declared.refusal.Refusal.TheVariants.{Closed}
