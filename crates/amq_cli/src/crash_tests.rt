@@ -1,62 +1,67 @@
 //! What a crash leaves at every moment of a run, loaded and compared with what may be kept.
-use crate::commands::read_commands;
-use crate::replay::replay;
-use amq_engine::{Engine, Kept, OpenFailed};
-use amq_io::{MemoryDisk, MemorySource, Pick};
-use amq_model::{Bytes, Config, Entry, EntryKind, Placed};
+use crate::{Status, offline_with};
+use amq_engine::Kept;
+use amq_io::{MemoryDisk, MemorySink, MemorySource, Pick};
+use amq_model::{Config, Name, Placed};
 use amq_scan::scan;
-use amq_state::plain_result;
+use amq_state::{Loading, plain_result};
 use std::alloc::Global;
 use std::process::Abort;
 use std::test::Fail;
 
 const DATA_FILE: &str = "activemq-data-1.amq";
 
-const SCRIPT: &[u8] = b"add 1 7 6869\ndelete 1\n";
+/// Two adds are flushed, then an update and a delete; two adds more are durable at the closing alone.
+const SCRIPT: &[u8] =
+    b"add 1 7 6869\nadd 2 7 -\nflush\nupdate 1 8 6a\ndelete 2\nflush\nadd 3 7 -\nadd 4 7 79\n";
 
-/// A file has room for the two records.
+/// A file and a buffer have room for several records.
 const SMALL: Config = Config {
-    file_size: 64,
+    file_size: 256,
     min_files: 2,
     pool_files: None,
     compact_min_files: 10,
     compact_percentage: 30,
-    buffer_size: 64,
+    buffer_size: 128,
     buffer_timeout: 3,
     user_version: 0,
 };
 
-/// Gives the script to a journal on a disk whose call of this number fails, none for 0: the list, four
-/// calls that make the file, and a write and a sync for each append.
-fn run(alloc: Global, fails: u64) -> Result<(MemoryDisk, Kept), Fail> {
-    let disk = MemoryDisk::failing(alloc, Vec::new(alloc), vec![in alloc; fails]?)?;
-    let script = Vec::from_slice(alloc, SCRIPT)?;
-    let mut source = MemorySource::new(script, 4096, Vec::new(alloc));
-    let Ok(commands) = read_commands(alloc, &mut source) else {
-        return Err(Fail::from("no script"));
-    };
-    match Engine::open_on(alloc, disk, Kept::new(alloc), SMALL) {
-        Ok((mut engine, _state)) => {
-            let mut text = Vec::new(alloc);
-            let _played = replay(&mut engine, commands, &mut text);
-            let (disk, kept, _closed) = engine.close();
-            Ok((disk, kept))
-        }
-        Err(
-            OpenFailed {
-                disk,
-                chronicle,
-                fault: _,
-            },
-        ) => Ok((disk, chronicle)),
-    }
+/// What a run left.
+#[derive(Drop)]
+struct Left {
+    status: Status,
+    disk: MemoryDisk,
+    kept: Kept,
+    text: Vec<u8>,
 }
 
-/// The records of the one file, none where it isn't there.
-fn records(alloc: Global, disk: &MemoryDisk) -> Result<Vec<Placed>, Fail> {
+/// Replays the script on a disk whose call of this number fails, none for 0: the list, four calls that
+/// make the file, a write and a sync for each flush and for the closing, and the read at the end.
+fn run(alloc: Global, script: &[u8], fails: u64) -> Result<Left, Fail> {
+    let disk = MemoryDisk::failing(alloc, Vec::new(alloc), vec![in alloc; fails]?)?;
+    let script = Vec::from_slice(alloc, script)?;
+    let mut source = MemorySource::new(script, 4096, Vec::new(alloc));
+    let mut sink = MemorySink::new(alloc, 4096, Vec::new(alloc));
+    let words = ["folder", "replay"];
+    let (status, disk, kept) = offline_with(alloc, SMALL, &words, disk, &mut source, &mut sink);
+    let text = Vec::from_slice(alloc, sink.bytes())?;
+    Ok(Left {
+        status,
+        disk,
+        kept,
+        text,
+    })
+}
+
+/// The records of the one file, none where it isn't there. The plain program gives the same result of
+/// them as the load.
+fn records(rt: &impl Abort, alloc: Global, disk: &MemoryDisk) -> Result<Vec<Placed>, Fail> {
     let mut records = Vec::new(alloc);
+    let mut loading = Loading::new(alloc);
     if let Some(bytes) = disk.look(DATA_FILE)? {
-        for spot in scan(alloc, &bytes, 1, 2)?.iter() {
+        let spots = scan(alloc, &bytes, 1, 2)?;
+        for spot in spots.iter() {
             records.push(Placed {
                 file: 1,
                 place: spot.place,
@@ -64,7 +69,9 @@ fn records(alloc: Global, disk: &MemoryDisk) -> Result<Vec<Placed>, Fail> {
                 rec: spot.rec.to_record(alloc)?,
             })?;
         }
+        loading.feed_file(1, &spots)?;
     }
+    assert_eq!(rt; loading.finish()?, plain_result(alloc, &records)?);
     Ok(records)
 }
 
@@ -80,34 +87,30 @@ fn history(alloc: Global, kept: &Kept) -> Result<(Vec<Placed>, usize), Fail> {
     Ok((history, durable as usize))
 }
 
-/// What a crash leaves of the disk is the history up to the record of this number, with all that the last
-/// receipt counts, and is loaded to the result of these records.
-fn check(
-    rt: &impl Abort,
-    alloc: Global,
-    disk: &MemoryDisk,
-    kept: &Kept,
-    pick: Pick,
-    count: usize,
-) -> Result<(), Fail> {
+/// Whether the list has these records, in order.
+fn is_part(records: &[Placed], list: &[Placed]) -> bool {
+    let mut rest = records;
+    for placed in list {
+        if let Some((first, others)) = rest.split_first() {
+            if first == placed {
+                rest = others;
+            }
+        }
+    }
+    rest.is_empty()
+}
+
+/// These records are a kept part of the history: as many of the first as the last receipt counts, and
+/// then a part of the later ones.
+fn check(rt: &impl Abort, alloc: Global, records: &[Placed], kept: &Kept) -> Result<(), Fail> {
     let (history, durable) = history(alloc, kept)?;
-    let left = records(alloc, &disk.crash(pick)?)?;
-    assert!(rt; durable <= count);
-    assert_eq!(rt; Some(left.as_slice()), history.as_slice().get(..count));
-    let live = plain_result(alloc, &left)?.live;
-    let expected = if count == 1 {
-        vec![in alloc;
-            Entry {
-                kind: EntryKind::Add,
-                id: 1,
-                user_type: 7,
-                body: Bytes::of(Vec::from_slice(alloc, b"hi")?),
-            },
-        ]?
-    } else {
-        Vec::new(alloc)
+    let history = history.as_slice();
+    let (Some(sure), Some(later)) = (history.get(..durable), history.get(durable..)) else {
+        return Err(Fail::from("more than the history"));
     };
-    assert_eq!(rt; live.as_slice(), expected.as_slice());
+    assert_eq!(rt; records.get(..durable), Some(sure));
+    let rest = records.get(durable..).ok_or("less than durable")?;
+    assert!(rt; is_part(rest, later));
     Ok(())
 }
 
@@ -116,23 +119,79 @@ fn check(
 #[test]
 fn a_crash_at_every_moment(rt: HostRuntime) -> Result<(), Fail> {
     let alloc = rt.alloc();
-    let counts: [(u64, usize, usize, usize); 10] = [
+    let counts: [(u64, usize, usize, usize); 13] = [
         (1, 0, 0, 0),
         (2, 0, 0, 0),
         (3, 0, 0, 0),
         (4, 0, 0, 0),
         (5, 0, 0, 0),
         (6, 0, 0, 0),
-        (7, 1, 0, 0),
-        (8, 1, 1, 1),
-        (9, 2, 1, 1),
-        (0, 2, 2, 2),
+        (7, 2, 0, 0),
+        (8, 2, 2, 2),
+        (9, 4, 2, 2),
+        (10, 4, 4, 4),
+        (11, 6, 4, 4),
+        (12, 6, 6, 6),
+        (0, 6, 6, 6),
     ];
     for (call, written, synced, zeroed) in counts {
-        let (disk, kept) = run(alloc, call)?;
-        check(&rt, alloc, &disk, &kept, Pick::Keep, written)?;
-        check(&rt, alloc, &disk, &kept, Pick::Revert, synced)?;
-        check(&rt, alloc, &disk, &kept, Pick::Fill(0), zeroed)?;
+        let left = run(alloc, SCRIPT, call)?;
+        let picks = [
+            (Pick::Keep, written),
+            (Pick::Revert, synced),
+            (Pick::Fill(0), zeroed),
+        ];
+        for (pick, count) in picks {
+            let records = records(&rt, alloc, &left.disk.crash(pick)?)?;
+            assert_eq!(rt; records.len(), count);
+            check(&rt, alloc, &records, &left.kept)?;
+        }
     }
     Ok(())
+}
+
+/// The first add is durable, so it is live whatever the crash leaves; the second one may be.
+#[test]
+fn the_second_flush_fails(rt: HostRuntime) -> Result<(), Fail> {
+    let alloc = rt.alloc();
+    let left = run(alloc, b"add 1 7 6869\nflush\nadd 2 7 6869\nflush\n", 9)?;
+    assert_eq!(rt; left.status, Status::DiskFault);
+    assert_eq!(rt; left.status.code(), 6);
+    assert_eq!(rt;
+        left.text.as_slice(),
+        b"ok 0\ndurable 1\nok 1\nrefused Disk Sync\n".as_slice()
+    );
+    for (pick, ids) in [
+        (Pick::Keep, [1, 2].as_slice()),
+        (Pick::Revert, [1].as_slice()),
+        (Pick::Fill(0), [1].as_slice()),
+    ] {
+        let records = records(&rt, alloc, &left.disk.crash(pick)?)?;
+        check(&rt, alloc, &records, &left.kept)?;
+        let mut live = Vec::new(alloc);
+        for entry in plain_result(alloc, &records)?.live.as_slice() {
+            live.push(entry.id)?;
+        }
+        assert_eq!(rt; live.as_slice(), ids);
+    }
+    Ok(())
+}
+
+/// Three adds wait for a sync that fails, and a crash leaves the first and the third of them.
+#[test]
+fn a_record_lost_in_the_middle(rt: HostRuntime) -> Result<(), Fail> {
+    let alloc = rt.alloc();
+    let left = run(alloc, b"add 1 7 -\nadd 2 7 -\nadd 3 7 -\nflush\n", 7)?;
+    let mut file = left.disk.look(DATA_FILE)?.ok_or("no file")?;
+    let middle = file.as_mut_slice().get_mut(39..62).ok_or("a short file")?;
+    middle.fill(0);
+    let name = Name::of(alloc, DATA_FILE)?.ok_or("no name")?;
+    let disk = MemoryDisk::of_files(alloc, vec![in alloc; (name, file)]?)?;
+    let records = records(&rt, alloc, &disk)?;
+    let mut places = Vec::new(alloc);
+    for placed in records.iter() {
+        places.push(placed.place)?;
+    }
+    assert_eq!(rt; places.as_slice(), [16, 62].as_slice());
+    check(&rt, alloc, &records, &left.kept)
 }

@@ -1,8 +1,8 @@
 ghost use Rattle.std.specs.Prelude.{◌≡◌, ◌≤◌};
 
-use crate::{Status, Unbuilt, offline};
+use crate::{Status, Unbuilt, offline, offline_with};
 use amq_io::{Disk, MemoryDisk, MemorySink, MemorySource};
-use amq_model::Name;
+use amq_model::{Config, Name};
 use std::alloc::Global;
 use std::test::Fail;
 
@@ -10,10 +10,29 @@ const DATA_FILE: &str = "activemq-data-1.amq";
 
 const WORDS: &[&str] = &["folder", "replay"];
 
+/// A file has room for several records, the buffer for one or two.
+const SMALL: Config = Config {
+    file_size: 256,
+    min_files: 2,
+    pool_files: None,
+    compact_min_files: 10,
+    compact_percentage: 30,
+    buffer_size: 64,
+    buffer_timeout: 3,
+    user_version: 0,
+};
+
 const SCRIPT: &[u8] = b"add 1 7 6869\nadd 1 7 -\ndelete 2\n";
 
 const TEXT: &[u8] =
     b"ok 0\nrefused AlreadyLive 1\nrefused NoRecord 2\nlive 1\nadd 1 7 6869\nin doubt 0\n";
+
+/// With bodies of 41 and 42 bytes.
+const LONG_SCRIPT: &[u8] =
+    b"add 1 7 -\nadd 2 7 0000000000000000000000000000000000000000000000000000000000000000000000000000000000\nadd 3 7 000000000000000000000000000000000000000000000000000000000000000000000000000000000000\n";
+
+const LONG_TEXT: &[u8] =
+    b"ok 0\nok 1\nrefused TooLarge 65 64\nlive 2\nadd 1 7 -\nadd 2 7 0000000000000000000000000000000000000000000000000000000000000000000000000000000000\nin doubt 0\n";
 
 /// What a run left.
 #[derive(Drop)]
@@ -38,6 +57,7 @@ const WHOLE: Streams = Streams {
     sink: 0,
 };
 
+/// Runs the command with a small file and a small buffer.
 fn run(
     alloc: Global,
     words: &[&str],
@@ -50,7 +70,7 @@ fn run(
     let script = Vec::from_slice(alloc, script)?;
     let mut source = MemorySource::new(script, streams.piece, vec![in alloc; streams.source]?);
     let mut sink = MemorySink::new(alloc, streams.piece, vec![in alloc; streams.sink]?);
-    let (status, disk, _kept) = offline(alloc, words, disk, &mut source, &mut sink);
+    let (status, disk, _kept) = offline_with(alloc, SMALL, words, disk, &mut source, &mut sink);
     let text = Vec::from_slice(alloc, sink.bytes())?;
     Ok(Left { status, disk, text })
 }
@@ -66,44 +86,54 @@ fn failing(alloc: Global, call: u64) -> Result<MemoryDisk, Fail> {
 }
 
 #[test]
-fn an_add_and_its_delete(rt: HostRuntime) -> Result<(), Fail> {
-    let left = replay(rt.alloc(), b"add 1 7 6869\ndelete 1\n")?;
-    assert_eq!(rt; left.status, Status::Ok);
-    assert_eq!(rt; left.status.code(), 0);
+fn a_tick_at_the_default_timeout(rt: HostRuntime) -> Result<(), Fail> {
+    let alloc = rt.alloc();
+    let script = Vec::from_slice(alloc, b"add 1 7 -\nupdate 1 8 6a\ntick 2\ntick 3\n")?;
+    let mut source = MemorySource::new(script, 4096, Vec::new(alloc));
+    let mut sink = MemorySink::new(alloc, 4096, Vec::new(alloc));
+    let disk = MemoryDisk::new(alloc)?;
+    let (status, disk, kept) = offline(alloc, WORDS, disk, &mut source, &mut sink);
+    assert_eq!(rt; status, Status::Ok);
+    assert_eq!(rt; status.code(), 0);
     assert_eq!(rt;
-        left.text.as_slice(),
-        b"ok 0\nok 1\nlive 0\nin doubt 0\n".as_slice()
+        sink.bytes(),
+        b"ok 0\nok 1\ndurable 0\ndurable 2\nlive 2\nadd 1 7 -\nupdate 1 8 6a\nin doubt 0\n".as_slice()
     );
-    let file = left.disk.look(DATA_FILE)?.ok_or("no file")?;
+    assert_eq!(rt; kept.receipts.as_slice().last().map(|r| r.durable), Some(2));
+    let file = disk.look(DATA_FILE)?.ok_or("no file")?;
     assert_eq!(rt; file.len(), 10_485_760);
-    let delete = b"\x10\x00\x00\x00\x01\x00\x00\x00\x00\x00\x00\x00\x00\x01\x00\x00\x00\x12";
-    assert_eq!(rt; file.as_slice().get(41..59), Some(delete.as_slice()));
-    assert!(rt; file.iter().skip(59).all(|byte| *byte == 0x4a));
+    let update =
+        b"\x0c\x00\x00\x00\x01\x00\x00\x00\x00\x00\x00\x00\x00\x01\x00\x00\x00\x01\x08\x6a\x00\x00\x00\x18";
+    assert_eq!(rt; file.as_slice().get(39..63), Some(update.as_slice()));
+    assert!(rt; file.iter().skip(63).all(|byte| *byte == 0x4a));
     Ok(())
 }
 
+/// A record of 64 bytes just fits the buffer; lines without words say nothing.
 #[test]
-fn refusals_have_their_lines(rt: HostRuntime) -> Result<(), Fail> {
-    let left = replay(rt.alloc(), SCRIPT)?;
-    assert_eq!(rt; left.status, Status::Ok);
-    assert_eq!(rt; left.text.as_slice(), TEXT);
-    Ok(())
-}
-
-#[test]
-fn lines_without_words_are_passed_over(rt: HostRuntime) -> Result<(), Fail> {
-    let left = replay(
-        rt.alloc(),
-        b"\n# nothing\n   \nadd 1 7 6869\n\n  delete   1  ",
-    )?;
-    assert_eq!(rt; left.status, Status::Ok);
-    assert_eq!(rt;
-        left.text.as_slice(),
-        b"ok 0\nok 1\nlive 0\nin doubt 0\n".as_slice()
-    );
-    let left = replay(rt.alloc(), b"")?;
-    assert_eq!(rt; left.status, Status::Ok);
-    assert_eq!(rt; left.text.as_slice(), b"live 0\nin doubt 0\n".as_slice());
+fn scripts_and_their_texts(rt: HostRuntime) -> Result<(), Fail> {
+    let rows: [(&[u8], &[u8]); 6] = [
+        (SCRIPT, TEXT),
+        (LONG_SCRIPT, LONG_TEXT),
+        (
+            b"update 9 7 -\n",
+            b"refused NoRecord 9\nlive 0\nin doubt 0\n",
+        ),
+        (
+            b"flush\nadd 1 7 -\ntick 9\nflush\ndelete 1\ntick 8\ntick 12\n",
+            b"durable 0\nok 0\ndurable 1\ndurable 1\nok 1\ndurable 1\ndurable 2\nlive 0\nin doubt 0\n",
+        ),
+        (
+            b"\n# nothing\n   \nadd 1 7 6869\n\n  delete   1  ",
+            b"ok 0\nok 1\nlive 0\nin doubt 0\n",
+        ),
+        (b"", b"live 0\nin doubt 0\n"),
+    ];
+    for (script, text) in rows {
+        let left = replay(rt.alloc(), script)?;
+        assert_eq!(rt; left.status, Status::Ok);
+        assert_eq!(rt; left.text.as_slice(), text);
+    }
     Ok(())
 }
 
@@ -111,9 +141,10 @@ fn lines_without_words_are_passed_over(rt: HostRuntime) -> Result<(), Fail> {
 #[test]
 fn what_is_not_built_is_left_alone(rt: HostRuntime) -> Result<(), Fail> {
     let alloc = rt.alloc();
-    let scripts: [&[u8]; 5] = [
-        b"flush\n",
-        b"add 1 7 6869\nupdate 1 7 -\n",
+    let scripts: [&[u8]; 6] = [
+        b"begin a\n",
+        b"add 1 7 6869\nreclaim\n",
+        b"step 1\n",
         b"add 1 7\n",
         b"add 1 7 6",
         b"\xff\n",
@@ -209,7 +240,8 @@ fn a_sink_that_fails(rt: HostRuntime) -> Result<(), Fail> {
     Ok(())
 }
 
-/// The calls are those of opening, a write and a sync for each append, and the read at the end.
+/// The calls are those of opening, a write and a sync for the flush, the same at the closing, and the
+/// read at the end.
 #[test]
 fn a_disk_that_fails(rt: HostRuntime) -> Result<(), Fail> {
     let alloc = rt.alloc();
@@ -221,13 +253,19 @@ fn a_disk_that_fails(rt: HostRuntime) -> Result<(), Fail> {
         b"",
         b"ok 0\nrefused Disk WriteAt\n",
         b"ok 0\nrefused Disk Sync\n",
-        b"ok 0\nok 1\nrefused Disk WriteAt\n",
-        b"ok 0\nok 1\nrefused Disk Sync\n",
-        b"ok 0\nok 1\n",
+        b"ok 0\ndurable 1\nok 1\n",
+        b"ok 0\ndurable 1\nok 1\n",
+        b"ok 0\ndurable 1\nok 1\n",
     ];
     for (i, text) in texts.into_iter().enumerate() {
         let disk = failing(alloc, i as u64 + 1)?;
-        let left = run(alloc, WORDS, b"add 1 7 6869\ndelete 1\n", disk, &WHOLE)?;
+        let left = run(
+            alloc,
+            WORDS,
+            b"add 1 7 6869\nflush\ndelete 1\n",
+            disk,
+            &WHOLE,
+        )?;
         assert_eq!(rt; left.status, Status::DiskFault);
         assert_eq!(rt; left.status.code(), 6);
         assert_eq!(rt; left.text.as_slice(), text);
