@@ -138,4 +138,3 @@ ended_more timeout front more steps receipts text ending short e =
       is = e.is;
       whole = e.whole;
     }
-

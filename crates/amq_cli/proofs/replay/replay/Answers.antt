@@ -43,7 +43,7 @@ returns-in_err-play_line-clause-ended g c =
     let ended = c.in_err-play_line.ensures.ended played.0 (subst (λ t. HasPlayed t played.0 c.loop-line.number c.loop-line.engine c.loop-line.text.items) (sym timeout) played.2) in
     let all = one_taken c.args.lines.items played.0 c.loop-line.lines.items c.pop.new.self.items line popped played.1 in
     let here = subst (λ ls. HasEnded c.args.engine.now.config.buffer_timeout ls steps receipts c.play_line.new.text.items (refusal_line c.in_err-play_line.field-0.0) (is_for_memory c.in_err-play_line.field-0.0)) all
-        (ended_more c.args.engine.now.config.buffer_timeout (played.0 ++ line ∷ []) (reverse c.pop.new.self.items) steps receipts c.play_line.new.text.items _ _
-        (subst (λ t. HasEnded t (played.0 ++ line ∷ []) steps receipts c.play_line.new.text.items (refusal_line c.in_err-play_line.field-0.0) (is_for_memory c.in_err-play_line.field-0.0)) timeout ended)) in
+    (ended_more c.args.engine.now.config.buffer_timeout (played.0 ++ line ∷ []) (reverse c.pop.new.self.items) steps receipts c.play_line.new.text.items _ _
+    (subst (λ t. HasEnded t (played.0 ++ line ∷ []) steps receipts c.play_line.new.text.items (refusal_line c.in_err-play_line.field-0.0) (is_for_memory c.in_err-play_line.field-0.0)) timeout ended)) in
     let err : c.from_residual.result ≡ Err c.in_err-play_line.field-0.0 = search rules in
     subst (λ r. IfErr r (λ refusal. HasEnded c.args.engine.now.config.buffer_timeout c.args.lines.items steps receipts c.play_line.new.text.items (refusal_line refusal) (is_for_memory refusal))) (sym err) here
