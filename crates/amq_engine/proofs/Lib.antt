@@ -3,6 +3,7 @@ pub mod Putting
 pub mod Texts
 pub mod Steps
 pub mod ReceiptExamples
+pub mod EngineExamples
 pub mod Receipts
 pub mod History
 pub mod Sound
