@@ -5,4 +5,5 @@ pub mod Ending
 pub mod Running
 pub mod Outputs
 pub mod Reloading
+pub mod ReplayExamples
 pub mod Recovering

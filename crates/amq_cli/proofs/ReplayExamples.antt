@@ -1,0 +1,160 @@
+-- Lines of a replay that may be answered so, and lines that may not.
+use Rattle.std.proofs.Common.{◌≡◌, ◌⊎◌, inl, inr, ℕ, ◌+◌, ◌-◌, ◌<◌, ◌≤◌, Bool, true, false, List, [], ◌∷◌, ◌++◌, length, map, codes, Option, None, Some, All, refl, sym, ap, subst, ◌∙◌, true≢false, arith}
+use Rattle.std.specs.Prelude.{IsTrue}
+use Rattle.std.specs.List.{filter_map}
+use Rattle.std.proofs.lemmas.List.Elements.{All-nil, All-cons, All-head, All-tail}
+use Rattle.std.specs.Fmt.{digits}
+use Rattle.amq_model.specs.declared.record.Placed.{Placed}
+use Rattle.amq_model.specs.declared.record.Record.TheVariants as rec
+use Rattle.amq_model.specs.declared.command.Command.{Command}
+use Rattle.amq_model.specs.declared.command.Command.TheVariants as c
+use Rattle.amq_model.specs.declared.command.Reply.TheVariants.{Appended, Durable}
+use Rattle.amq_model.specs.declared.script.Line.{Line}
+use Rattle.amq_model.specs.declared.script.Line.TheVariants as l
+use Rattle.amq_model.specs.declared.history.Answer.{Answer}
+use Rattle.amq_model.specs.declared.history.Answer.TheVariants.{Done, Refused}
+use Rattle.amq_model.specs.declared.history.Step.{Step}
+use Rattle.amq_model.specs.Texts.{reply_line}
+use Rattle.amq_engine.specs.declared.chronicle.Receipted.{Receipted}
+use Rattle.amq_cli.specs.Replay.{Answered, commanded, placed_at, counted, clock_of, reply_lines, IsTicked, IsReceipted, AreAnswered, HasEnded}
+
+-- ---- the lines
+
+abbrev add : Command
+add = c.Add 1 7 []
+
+abbrev update : Command
+update = c.Update 1 8 (0x6a ∷ [])
+
+-- an append of this place
+abbrev appended : Command → ℕ → Answered
+appended command place = (l.Plain command, Done (Appended place))
+
+-- a tick at this moment
+abbrev durable : ℕ → ℕ → Answered
+durable now count = (l.Tick now, Done (Durable count))
+
+-- ---- a tick behind an add and an update, with a timeout of 3
+
+abbrev two : List Answered
+two = appended add 0 ∷ appended update 1 ∷ []
+
+-- what holds of each element holds of one of them
+abbrev one_of : {X : Type 0} (P : X → Type 0) (front : List X) (x : X) (back : List X) → All P (front ++ x ∷ back) → P x
+one_of P [] x back h = All-head P x back h
+one_of P (f ∷ fs) x back h = one_of P fs x back (All-tail P f (fs ++ x ∷ back) h)
+
+-- one place isn't another
+not_at : (m n : ℕ) → m < n → Some m ≡ Some n → ⊥
+not_at m n lt e = let same : m ≡ n = cc in omega (arith, same, lt)
+
+-- they are less than 3 old
+pub nothing_is_due : IsTicked 3 two 2 0
+nothing_is_due = record { within = omega arith; rising = All-nil (λ c. c ≤ 0); young = λ front x back is place. omega arith }
+
+-- at 3 the first one is due
+pub a_tick_that_does_not_flush : IsTicked 3 two 3 0 → ⊥
+a_tick_that_does_not_flush h = let young : 3 - 0 < 3 = h.young [] (appended add 0) (appended update 1 ∷ []) refl refl in omega (arith, young)
+
+-- and the second one with it, since they came at one time
+pub a_tick_that_flushes_one : IsTicked 3 two 3 1 → ⊥
+a_tick_that_flushes_one h = let young : 3 - 0 < 3 = h.young (appended add 0 ∷ []) (appended update 1) [] refl refl in omega (arith, young)
+
+pub all_are_durable : IsTicked 3 two 3 2
+all_are_durable = record { within = omega arith; rising = All-nil (λ c. c ≤ 2); young = λ front x back is place. absurd (one_of (λ y. placed_at y ≡ Some 2 → ⊥) front x back (subst (All (λ y. placed_at y ≡ Some 2 → ⊥)) is each) place) } where
+  each : All (λ y. placed_at y ≡ Some 2 → ⊥) two
+  each = All-cons (λ y. placed_at y ≡ Some 2 → ⊥) (appended add 0) (appended update 1 ∷ []) (not_at 0 2 (omega arith)) (All-cons (λ y. placed_at y ≡ Some 2 → ⊥) (appended update 1) [] (not_at 1 2 (omega arith)) (All-nil (λ y. placed_at y ≡ Some 2 → ⊥)))
+
+pub more_than_there_are : IsTicked 3 two 2 3 → ⊥
+more_than_there_are h = let within : 3 ≤ 2 = h.within in omega (arith, within)
+
+-- ---- a tick behind one that was answered 2, and an add
+
+abbrev later : List Answered
+later = appended add 0 ∷ appended update 1 ∷ durable 3 2 ∷ appended (c.Delete 1) 2 ∷ []
+
+pub fewer_than_before : IsTicked 3 later 4 1 → ⊥
+fewer_than_before h = let rising : 2 ≤ 1 = All-head (λ c. c ≤ 1) 2 [] h.rising in omega (arith, rising)
+
+-- the delete came behind the tick of 3, so at 6 it is due
+pub the_delete_is_due : IsTicked 3 later 6 2 → ⊥
+the_delete_is_due h = let young : 6 - 3 < 3 = h.young (appended add 0 ∷ appended update 1 ∷ durable 3 2 ∷ []) (appended (c.Delete 1) 2) [] refl refl in omega (arith, young)
+
+-- ---- three lines and their steps
+
+abbrev lines : List Line
+lines = l.Plain add ∷ l.Tick 3 ∷ l.Plain (c.Delete 1) ∷ []
+
+abbrev answered : List Answered
+answered = appended add 0 ∷ durable 3 1 ∷ appended (c.Delete 1) 1 ∷ []
+
+abbrev first : Step
+first = record { seat = 1; number = 1; command = add; answer = Done (Appended 0); placed = Some (record { file = 1; place = 16; compact = 0; rec = rec.Add 1 7 [] }) }
+
+abbrev second : Step
+second = record { seat = 1; number = 2; command = c.Delete 1; answer = Done (Appended 1); placed = Some (record { file = 1; place = 39; compact = 0; rec = rec.Delete 1 }) }
+
+abbrev receipts : List Receipted
+receipts = record { durable = 0; moment = 5 } ∷ record { durable = 1; moment = 7 } ∷ record { durable = 2; moment = 9 } ∷ []
+
+-- the tick is no step
+pub three_lines : AreAnswered 3 lines (first ∷ second ∷ []) receipts answered
+three_lines = record { front = refl; commands = refl; numbered = (refl, refl, (refl, refl, tt)); receipted = All-cons (IsReceipted receipts) 1 [] refl (All-nil (IsReceipted receipts)); answers = (tt, (ticked, (tt, tt))) } where
+  ticked : IsTicked 3 (appended add 0 ∷ []) 3 1
+  ticked = record { within = omega arith; rising = All-nil (λ c. c ≤ 1); young = λ front x back is place. absurd (one_of (λ y. placed_at y ≡ Some 1 → ⊥) front x back (subst (All (λ y. placed_at y ≡ Some 1 → ⊥)) is each) place) } where
+    each : All (λ y. placed_at y ≡ Some 1 → ⊥) (appended add 0 ∷ [])
+    each = All-cons (λ y. placed_at y ≡ Some 1 → ⊥) (appended add 0) [] (not_at 0 1 (omega arith)) (All-nil (λ y. placed_at y ≡ Some 1 → ⊥))
+
+pub a_step_is_missing : AreAnswered 3 lines (first ∷ []) receipts answered → ⊥
+a_step_is_missing h = let n : ◌≡◌ {A = ℕ} 1 2 = ap length h.commands in omega (arith, n)
+
+pub a_number_is_left_out : AreAnswered 3 lines (first ∷ record second { number = 3 } ∷ []) receipts answered → ⊥
+a_number_is_left_out h = let n : ◌≡◌ {A = ℕ} 3 2 = h.numbered.2.1 in omega (arith, n)
+
+pub a_count_without_a_receipt : AreAnswered 3 lines (first ∷ second ∷ []) (record { durable = 0; moment = 5 } ∷ record { durable = 2; moment = 9 } ∷ []) answered → ⊥
+a_count_without_a_receipt h = true≢false (sym (All-head (IsReceipted (record { durable = 0; moment = 5 } ∷ record { durable = 2; moment = 9 } ∷ [])) 1 [] h.receipted))
+
+-- the tick would be answered 0 a moment too late
+pub a_tick_too_late : AreAnswered 3 lines (first ∷ second ∷ []) receipts (appended add 0 ∷ durable 3 0 ∷ appended (c.Delete 1) 1 ∷ []) → ⊥
+a_tick_too_late h = let young : 3 - 0 < 3 = h.answers.1.0.young [] (appended add 0) [] refl refl in omega (arith, young)
+
+-- ---- how a replay ends
+
+-- memory was short in the middle of the second line
+pub cut_short : HasEnded 3 lines (first ∷ second ∷ []) receipts (codes "ok 0\ndur") [] true
+unfolding digits
+cut_short = record { answered = answered; are = three_lines; rest = codes "able 1\nok 1\n"; is = refl; whole = inl refl }
+
+pub all_of_it : HasEnded 3 lines (first ∷ second ∷ []) receipts (codes "ok 0\ndurable 1\nok 1\n") [] false
+unfolding digits
+all_of_it = record { answered = answered; are = three_lines; rest = []; is = refl; whole = inr refl }
+
+-- the one step's line is there, unless memory was short
+pub cut_short_for_nothing : HasEnded 3 lines (first ∷ []) receipts [] [] false → ⊥
+unfolding digits
+cut_short_for_nothing h = by h.answered h.are (is h.whole) where
+  is : (false ≡ true) ⊎ (h.rest ≡ []) → [] ≡ reply_lines h.answered ++ []
+  is (inl e) = absurd (true≢false (sym e))
+  is (inr e) = sym e ∙ h.is
+
+  none : (b : ℕ) (bs : List ℕ) → [] ≡ b ∷ bs → ⊥
+  none b bs e = cc
+
+  shown : (a : Answer) (others : List Answered) → a ≡ Done (Appended 0) → [] ≡ (reply_line a ++ reply_lines others) ++ [] → ⊥
+  shown a others is e = none 111 (107 ∷ 32 ∷ 48 ∷ 10 ∷ (reply_lines others ++ [])) (subst (λ v. [] ≡ (reply_line v ++ reply_lines others) ++ []) is e)
+
+  first_of : List (Command × Answer) → Answer
+  first_of [] = Done (Appended 0)
+  first_of (y ∷ ys) = y.1
+
+  head : (x : Answered) (xs : List Answered) → x.0 ≡ l.Plain add → map (λ s. (s.command, s.answer)) (first ∷ []) ≡ filter_map commanded (x ∷ xs) → x.1 ≡ Done (Appended 0)
+  head (line, answer) xs e commands = sym (ap first_of (subst (λ v. map (λ s. (s.command, s.answer)) (first ∷ []) ≡ filter_map commanded ((v, answer) ∷ xs)) e commands))
+
+  -- the line of the first one of these
+  line_of : List Line → Line
+  line_of [] = l.Plain add
+  line_of (y ∷ ys) = y
+
+  by : (xs : List Answered) → AreAnswered 3 lines (first ∷ []) receipts xs → [] ≡ reply_lines xs ++ [] → ⊥
+  by [] are e = let n : ◌≡◌ {A = ℕ} 1 0 = ap length are.commands in omega (arith, n)
+  by (x ∷ xs) are e = shown x.1 xs (head x xs (ap line_of are.front) are.commands) e
