@@ -1,5 +1,5 @@
 //! The journal over one disk.
-ghost use Rattle.std.specs.Prelude.{◌≡◌, ◌⊎◌, ◌↔◌, ◌+◌, ◌<◌, ◌≤◌, ◌&&◌, max, false, if◌then◌else◌, [], length, None, Some, is_ok, is_some, Ok, Err, IfSome, IsSome, IfOk, IfErr, OnOk, OnErr};
+ghost use Rattle.std.specs.Prelude.{◌≡◌, ◌⊎◌, ◌↔◌, ◌+◌, ◌<◌, ◌≤◌, ◌&&◌, max, false, true, if◌then◌else◌, [], length, None, Some, is_ok, is_some, Ok, Err, IfSome, IsSome, IfOk, IfErr, OnOk, OnErr};
 ghost use Rattle.amq_model.specs.Configs.{IsConfig};
 ghost use Rattle.amq_model.specs.Calls.{counted};
 ghost use Rattle.amq_model.specs.Leaves.{Told};
@@ -163,7 +163,7 @@ impl<D: Disk, C: Chronicle> Engine<D, C> {
         ensures err { OnErr result (self.new ≡ record self.old { disk = self.new.disk; chronicle = self.new.chronicle; closed = closed_after result self.old.closed }) }
         ensures answers { IfErr result IsCommandAnswer }
         ensures refused { IfErr result (λ refusal. IsCommandRefusal refusal → self.new.disk ≡ self.old.disk) }
-        ensures idle { (flushes self.old.config.buffer_size self.old.waiting command ≡ false) ⊎ IsSome self.old.closed → self.new.disk ≡ self.old.disk }
+        ensures idle { (flushes self.old.config.buffer_size self.old.waiting command ≡ false) ⊎ ((self.old.since ≡ None) ⊎ IsSome self.old.closed) → self.new.disk ≡ self.old.disk }
         ensures calls { D.moment self.new.disk ≤ D.moment self.old.disk + 2 }
         ensures closed { (call : DiskCall) → (result ≡ Err (Refusal.Closed call)) ↔ (self.old.closed ≡ Some call) }
         ensures cause { HasCause result (D.faults self.old.disk) (D.faults self.new.disk) }
@@ -212,6 +212,7 @@ impl<D: Disk, C: Chronicle> Engine<D, C> {
         ensures refusals { IfErr result IsFlushRefusal }
         ensures receipt { C.lists self.new.chronicle ≡ receipted (is_ok result && is_some self.old.since) self.old.appended (D.moment self.new.disk) (C.lists self.old.chronicle) }
         ensures idle { (self.old.since ≡ None) ⊎ IsSome self.old.closed → self.new.disk ≡ self.old.disk }
+        ensures quiet { self.old.closed ≡ None → self.old.since ≡ None → is_ok result ≡ true }
         ensures calls { D.moment self.new.disk ≤ D.moment self.old.disk + 2 }
         ensures closed { (call : DiskCall) → (result ≡ Err (Refusal.Closed call)) ↔ (self.old.closed ≡ Some call) }
         ensures cause { HasCause result (D.faults self.old.disk) (D.faults self.new.disk) }
@@ -237,6 +238,7 @@ impl<D: Disk, C: Chronicle> Engine<D, C> {
         ensures refusals { IfErr result IsFlushRefusal }
         ensures receipt { C.lists self.new.chronicle ≡ receipted (is_ok result && must_flush (at_clock now self.old)) self.old.appended (D.moment self.new.disk) (C.lists self.old.chronicle) }
         ensures idle { (must_flush (at_clock now self.old) ≡ false) ⊎ IsSome self.old.closed → self.new.disk ≡ self.old.disk }
+        ensures quiet { self.old.closed ≡ None → must_flush (at_clock now self.old) ≡ false → is_ok result ≡ true }
         ensures calls { D.moment self.new.disk ≤ D.moment self.old.disk + 2 }
         ensures closed { (call : DiskCall) → (result ≡ Err (Refusal.Closed call)) ↔ (self.old.closed ≡ Some call) }
         ensures cause { HasCause result (D.faults self.old.disk) (D.faults self.new.disk) }
@@ -259,6 +261,7 @@ impl<D: Disk, C: Chronicle> Engine<D, C> {
         ensures refusals { IfErr result.2 IsFlushRefusal }
         ensures receipt { C.lists result.1 ≡ receipted (is_ok result.2 && is_some self.since) self.appended (D.moment result.0) (C.lists self.chronicle) }
         ensures idle { (self.since ≡ None) ⊎ IsSome self.closed → result.0 ≡ self.disk }
+        ensures quiet { self.closed ≡ None → self.since ≡ None → is_ok result.2 ≡ true }
         ensures calls { D.moment result.0 ≤ D.moment self.disk + 2 }
         ensures closed { (call : DiskCall) → (result.2 ≡ Err (Refusal.Closed call)) ↔ (self.closed ≡ Some call) }
         ensures cause { HasCause result.2 (D.faults self.disk) (D.faults result.0) }

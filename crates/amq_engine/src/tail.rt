@@ -1,5 +1,5 @@
 //! The end of the file in use: the records that wait in the buffer, and writing them out.
-ghost use Rattle.std.specs.Prelude.{◌≡◌, ◌+◌, ◌^◌, ◌<◌, ◌≤◌, ℕ, Bool, false, [], length, ◌&&◌, is_ok, is_some, option_map, None, IfSome, OnOk, OnErr};
+ghost use Rattle.std.specs.Prelude.{◌≡◌, ◌⊎◌, ◌+◌, ◌^◌, ◌<◌, ◌≤◌, ℕ, Bool, false, true, [], length, ◌&&◌, is_ok, is_some, option_map, None, IfSome, OnOk, OnErr};
 ghost use Rattle.amq_model.specs.declared.config.Config.{Config};
 ghost use Rattle.amq_model.specs.RecordAt.{len_of};
 ghost use Rattle.amq_model.specs.Leaves.{Told, IsThere, IsWithin};
@@ -55,6 +55,7 @@ pub fn write_out<D: Disk, C: Chronicle>(
     ensures steps { C.step_room chronicle.new ≡ C.step_room chronicle.old }
     ensures room { C.receipt_room chronicle.old ≤ C.receipt_room chronicle.new + 1 }
     ensures idle { tail.old.buffer.since ≡ None → disk.new ≡ disk.old }
+    ensures quiet { tail.old.buffer.since ≡ None → is_ok result ≡ true }
     ensures cause { HasFault result (D.faults disk.old) (D.faults disk.new) }
     ensures calls { D.moment disk.new ≤ D.moment disk.old + 2 }
 {
@@ -90,7 +91,7 @@ pub fn ready<D: Disk, C: Chronicle>(
     ensures receipt { C.lists chronicle.new ≡ receipted (is_ok result && is_without_room tail.old.buffer rec.now && is_some tail.old.buffer.since) tail.old.appended (D.moment disk.new) (C.lists chronicle.old) }
     ensures steps { C.step_room chronicle.new ≡ C.step_room chronicle.old }
     ensures room { C.receipt_room chronicle.old ≤ C.receipt_room chronicle.new + 1 }
-    ensures idle { is_without_room tail.old.buffer rec.now ≡ false → disk.new ≡ disk.old }
+    ensures idle { (is_without_room tail.old.buffer rec.now ≡ false) ⊎ (tail.old.buffer.since ≡ None) → disk.new ≡ disk.old }
     ensures cause { HasFault result (D.faults disk.old) (D.faults disk.new) }
     ensures calls { D.moment disk.new ≤ D.moment disk.old + 2 }
 {

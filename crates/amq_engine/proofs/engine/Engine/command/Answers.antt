@@ -75,8 +75,9 @@ returns-in-Err-ready-clause-idle g c (inl none) =
     let same = c.self.view_is in
     let here = room_is c.args.command e.tail.buffer e.config.buffer_size c.in-Ok.rec c.requires.kind c.self.invariant.sound.capacity c.in-Ok.ensures.record in
     let told = subst (λ v. flushes v.config.buffer_size v.waiting c.args.command ≡ false) (sym same) none in
-    c.ready.ensures.idle (here ∙ told) ∙ ap (λ v. v.disk) same
-returns-in-Err-ready-clause-idle g c (inr some) = absurd (not_closed c.args.self.now.closed (sym (ap (λ v. v.closed) c.self.view_is) ∙ c.in_default.is) some)
+    c.ready.ensures.idle (inl (here ∙ told)) ∙ ap (λ v. v.disk) same
+returns-in-Err-ready-clause-idle g c (inr (inl empty)) = c.ready.ensures.idle (inr (ap (λ v. v.since) c.self.view_is ∙ empty)) ∙ ap (λ v. v.disk) c.self.view_is
+returns-in-Err-ready-clause-idle g c (inr (inr some)) = absurd (not_closed c.args.self.now.closed (sym (ap (λ v. v.closed) c.self.view_is) ∙ c.in_default.is) some)
 
 pub put_record-reply-requires-clause-count : goal.put_record-reply-requires-clause-count
 put_record-reply-requires-clause-count g c =
