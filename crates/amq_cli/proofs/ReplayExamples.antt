@@ -1,10 +1,8 @@
 -- Lines of a replay that may be answered so, and lines that may not.
-use Rattle.std.proofs.Common.{◌≡◌, ◌⊎◌, inl, inr, ℕ, ◌+◌, ◌-◌, ◌<◌, ◌≤◌, Bool, true, false, List, [], ◌∷◌, ◌++◌, length, map, codes, Option, None, Some, All, refl, sym, ap, subst, ◌∙◌, true≢false, arith}
-use Rattle.std.specs.Prelude.{IsTrue}
+use Rattle.std.proofs.Common.{◌≡◌, ◌⊎◌, inl, inr, ℕ, ◌-◌, ◌<◌, ◌≤◌, true, false, List, [], ◌∷◌, ◌++◌, length, map, codes, Some, All, refl, sym, ap, subst, ◌∙◌, true≢false, arith}
 use Rattle.std.specs.List.{filter_map}
 use Rattle.std.proofs.lemmas.List.Elements.{All-nil, All-cons, All-head, All-tail}
 use Rattle.std.specs.Fmt.{digits}
-use Rattle.amq_model.specs.declared.record.Placed.{Placed}
 use Rattle.amq_model.specs.declared.record.Record.TheVariants as rec
 use Rattle.amq_model.specs.declared.command.Command.{Command}
 use Rattle.amq_model.specs.declared.command.Command.TheVariants as c
@@ -12,11 +10,11 @@ use Rattle.amq_model.specs.declared.command.Reply.TheVariants.{Appended, Durable
 use Rattle.amq_model.specs.declared.script.Line.{Line}
 use Rattle.amq_model.specs.declared.script.Line.TheVariants as l
 use Rattle.amq_model.specs.declared.history.Answer.{Answer}
-use Rattle.amq_model.specs.declared.history.Answer.TheVariants.{Done, Refused}
+use Rattle.amq_model.specs.declared.history.Answer.TheVariants.{Done}
 use Rattle.amq_model.specs.declared.history.Step.{Step}
 use Rattle.amq_model.specs.Texts.{reply_line}
 use Rattle.amq_engine.specs.declared.chronicle.Receipted.{Receipted}
-use Rattle.amq_cli.specs.Replay.{Answered, commanded, placed_at, counted, clock_of, reply_lines, IsTicked, IsReceipted, AreAnswered, HasEnded}
+use Rattle.amq_cli.specs.Replay.{Answered, commanded, placed_at, reply_lines, IsTicked, IsReceipted, AreAnswered, HasEnded}
 
 -- ---- the lines
 
