@@ -1,29 +1,28 @@
 -- One line of a replay, through the engine.
-use Rattle.std.proofs.Common.{◌≡◌, ◌⊎◌, inl, inr, ℕ, ◌+◌, ◌≤◌, Bool, true, false, cond, eqb, List, [], ◌∷◌, ◌++◌, Option, None, Some, refl, sym, ap, subst, ◌∙◌, arith}
-use Rattle.std.specs.Prelude.{max, IsTrue, is_some, is_ok, option_map, ◌&&◌, ◌||◌, Result, Ok, Err}
+use Rattle.std.proofs.Common.{◌≡◌, ◌⊎◌, inl, inr, ℕ, ◌+◌, Bool, true, false, cond, eqb, List, [], ◌∷◌, ◌++◌, Option, None, Some, refl, sym, ap, subst, ◌∙◌}
+use Rattle.std.specs.Prelude.{IfOk, max, option_map, ◌||◌, Result, Ok, Err}
 use Rattle.std.specs.List.{list_any}
 use Rattle.std.proofs.lemmas.Bool.{eq-eqb}
-use Rattle.amq_model.specs.declared.record.Record.{Record}
 use Rattle.amq_model.specs.declared.record.Record.TheVariants as r
 use Rattle.amq_model.specs.declared.record.Placed.{Placed}
+use Rattle.amq_model.specs.RecordAt.{len_of}
 use Rattle.amq_model.specs.declared.command.Command.{Command}
 use Rattle.amq_model.specs.declared.command.Command.TheVariants as c
 use Rattle.amq_model.specs.declared.command.Reply.{Reply}
-use Rattle.amq_model.specs.declared.command.Reply.TheVariants.{Appended, Durable}
+use Rattle.amq_model.specs.declared.command.Reply.TheVariants.{Appended, Begun, Durable}
 use Rattle.amq_model.specs.declared.script.Line.{Line}
 use Rattle.amq_model.specs.declared.script.Line.TheVariants as l
 use Rattle.amq_model.specs.declared.history.Answer.{Answer}
 use Rattle.amq_model.specs.declared.history.Answer.TheVariants.{Done, Refused}
 use Rattle.amq_model.specs.declared.history.Step.{Step}
 use Rattle.amq_model.specs.declared.refusal.Refusal.{Refusal}
-use Rattle.amq_model.specs.Plain.{IsPlainCommand}
 use Rattle.amq_engine.specs.declared.chronicle.Kept.{Kept}
 use Rattle.amq_engine.specs.declared.chronicle.Receipted.{Receipted}
 use Rattle.amq_engine.specs.Lists.{Lists, with_step, with_receipt}
 use Rattle.amq_engine.specs.Receipts.{IsLastCount, EndsWith}
-use Rattle.amq_engine.specs.Engine.{EngineOf, Notes, is_noted, answer_of, receipted, reply_to, flushes, flushed, with_record, behind_command, at_clock, must_flush, behind_tick, is_due}
+use Rattle.amq_engine.specs.Engine.{EngineOf, Notes, is_noted, answer_of, receipted, IsReply, flushes, flushed, with_record, behind_command, at_clock, must_flush, behind_tick, is_due}
 use Rattle.amq_cli.specs.Offline.{lists_of}
-use Rattle.amq_cli.specs.Replay.{is_built, IsTicked, Answered, commanded, counted, placed_at, clock_of, IsReceipted, AreLineAnswers}
+use Rattle.amq_cli.specs.Replay.{IsTicked, is_begin, number_behind, Answered, sent, commanded, counted, placed_at, ticked, clock_of, IsReceipted, IsLineAnswer}
 use Rattle.amq_cli.specs.Playing.{AreNumbers, AreSteps, IsPlaying}
 use Rattle.amq_cli.proofs.Playing.{numbers_flushed, numbers_appended, numbers_answered, tick_waits, tick_flushes, same_clock, later_clock, one_more_answer, step_more, steps_same, weaker_receipts}
 
@@ -90,9 +89,30 @@ noted number command result b appended moment old new taken notes = by b refl wh
       let same : new ≡ with_step (step_of number command (answer_of result) notes.placed) old = cc in
       record { step = step_of number command (answer_of result) notes.placed; steps = ap (λ (l : Lists). l.steps) same; receipts = inl (ap (λ (l : Lists). l.receipts) same); seated = refl; numbered = refl; commanded = refl; answered = refl }
 
--- the command of a line, and its step
-said : {number : ℕ} {command : Command} {result : Result Reply Refusal} {old new : Lists} (n : IsNoted number command result old new) → commanded (l.Plain command, answer_of result) ≡ Some (n.step.command, n.step.answer)
-said {number} {command} {result} n = ap (λ (c : Command). Some (c, answer_of result)) (sym n.commanded) ∙ ap (λ (a : Answer). Some (n.step.command, a)) (sym n.answered)
+-- a line that sends a command has the command and its answer
+said : {number : ℕ} {command : Command} {result : Result Reply Refusal} {old new : Lists} (answered : List Answered) (line : Line) → sent answered line ≡ Some command → (n : IsNoted number command result old new) → commanded answered (line, Some (answer_of result)) ≡ Some (n.step.command, n.step.answer)
+said {number} {command} {result} answered line is n =
+    ap (λ (o : Option Command). elim o [ None ↦ None | Some command ↦ option_map (λ answer. (command, answer)) (Some (answer_of result)) ]) is ∙ ap (λ (c : Command). Some (c, answer_of result)) (sym n.commanded) ∙ ap (λ (a : Answer). Some (n.step.command, a)) (sym n.answered)
+
+-- it is no tick
+sent_no_tick : (answered : List Answered) (line : Line) (command : Command) (answer : Option Answer) → sent answered line ≡ Some command → ticked (line, answer) ≡ None
+sent_no_tick answered (l.Plain given) command answer is = refl
+sent_no_tick answered (l.Labelled label given) command answer is = refl
+sent_no_tick answered (l.Bind label tx) command answer is = absurd (let e : None ≡ Some command = is in cc)
+sent_no_tick answered (l.Tick now) command answer is = absurd (let e : None ≡ Some command = is in cc)
+sent_no_tick answered l.Reclaim command answer is = absurd (let e : None ≡ Some command = is in cc)
+sent_no_tick answered l.Compact command answer is = absurd (let e : None ≡ Some command = is in cc)
+sent_no_tick answered (l.Step steps) command answer is = absurd (let e : None ≡ Some command = is in cc)
+
+-- and any answer will do
+sent_answer : (timeout : ℕ) (answered : List Answered) (line : Line) (command : Command) (answer : Answer) → sent answered line ≡ Some command → IsLineAnswer timeout answered line (Some answer)
+sent_answer timeout answered (l.Plain given) command answer is = tt
+sent_answer timeout answered (l.Labelled label given) command answer is = tt
+sent_answer timeout answered (l.Bind label tx) command answer is = absurd (let e : None ≡ Some command = is in cc)
+sent_answer timeout answered (l.Tick now) command answer is = absurd (let e : None ≡ Some command = is in cc)
+sent_answer timeout answered l.Reclaim command answer is = absurd (let e : None ≡ Some command = is in cc)
+sent_answer timeout answered l.Compact command answer is = absurd (let e : None ≡ Some command = is in cc)
+sent_answer timeout answered (l.Step steps) command answer is = absurd (let e : None ≡ Some command = is in cc)
 
 -- ---- lines
 
@@ -110,96 +130,133 @@ module _ {D : Type 0} (timeout : ℕ) (answered : List Answered) (number : ℕ) 
   as_new : (xs : List Answered) (e : EngineOf D Kept) → new ≡ record e { disk = new.disk; chronicle = new.chronicle } → Numbers xs e → Numbers xs new
   as_new xs e is n = subst (Numbers xs) (sym is) n
 
-  -- a command that was accepted
-  command_numbers : (command : Command) (reply : Reply) → IsPlainCommand command → reply ≡ reply_to old.appended command → Grows old.chronicle.receipts.items new.chronicle.receipts.items → IsReceipted new.chronicle.receipts.items (behind_command command old).durable
-      → Numbers (answered ++ (l.Plain command, Done reply) ∷ []) (behind_command command old)
-  command_numbers (c.Add id user_type body) reply kind is grows last = by (flushes old.config.buffer_size old.waiting (c.Add id user_type body)) last where
-    by : (b : Bool) → IsReceipted new.chronicle.receipts.items (cond b (flushed old) old).durable → Numbers (answered ++ (l.Plain (c.Add id user_type body), Done reply) ∷ []) (with_record (Some (r.Add id user_type body)) (cond b (flushed old) old))
-    by true last = numbers_appended answered _ _ old.clock old.appended old.appended None refl (ap (λ r. placed_at (l.Plain (c.Add id user_type body), Done r)) is) (ap (λ r. counted (l.Plain (c.Add id user_type body), Done r)) is) (first_flushed true grows last)
-    by false last = numbers_appended answered _ _ old.clock old.appended old.durable old.since refl (ap (λ r. placed_at (l.Plain (c.Add id user_type body), Done r)) is) (ap (λ r. counted (l.Plain (c.Add id user_type body), Done r)) is) (first_flushed false grows last)
-  command_numbers (c.Update id user_type body) reply kind is grows last = by (flushes old.config.buffer_size old.waiting (c.Update id user_type body)) last where
-    by : (b : Bool) → IsReceipted new.chronicle.receipts.items (cond b (flushed old) old).durable → Numbers (answered ++ (l.Plain (c.Update id user_type body), Done reply) ∷ []) (with_record (Some (r.Update id user_type body)) (cond b (flushed old) old))
-    by true last = numbers_appended answered _ _ old.clock old.appended old.appended None refl (ap (λ r. placed_at (l.Plain (c.Update id user_type body), Done r)) is) (ap (λ r. counted (l.Plain (c.Update id user_type body), Done r)) is) (first_flushed true grows last)
-    by false last = numbers_appended answered _ _ old.clock old.appended old.durable old.since refl (ap (λ r. placed_at (l.Plain (c.Update id user_type body), Done r)) is) (ap (λ r. counted (l.Plain (c.Update id user_type body), Done r)) is) (first_flushed false grows last)
-  command_numbers (c.Delete id) reply kind is grows last = by (flushes old.config.buffer_size old.waiting (c.Delete id)) last where
-    by : (b : Bool) → IsReceipted new.chronicle.receipts.items (cond b (flushed old) old).durable → Numbers (answered ++ (l.Plain (c.Delete id), Done reply) ∷ []) (with_record (Some (r.Delete id)) (cond b (flushed old) old))
-    by true last = numbers_appended answered _ _ old.clock old.appended old.appended None refl (ap (λ r. placed_at (l.Plain (c.Delete id), Done r)) is) (ap (λ r. counted (l.Plain (c.Delete id), Done r)) is) (first_flushed true grows last)
-    by false last = numbers_appended answered _ _ old.clock old.appended old.durable old.since refl (ap (λ r. placed_at (l.Plain (c.Delete id), Done r)) is) (ap (λ r. counted (l.Plain (c.Delete id), Done r)) is) (first_flushed false grows last)
-  command_numbers c.Flush reply kind is grows last =
-      numbers_answered answered (l.Plain c.Flush, Done reply) _ old.clock old.clock old.appended old.appended None (was.numbers.time ∙ sym (same_clock answered _ refl)) (ap (λ r. placed_at (l.Plain c.Flush, Done r)) is) (inr (ap (λ r. counted (l.Plain c.Flush, Done r)) is)) (first_flushed true grows last)
-  command_numbers c.Begin reply kind is grows last = absurd kind
-  command_numbers (c.AddTx tx id user_type body) reply kind is grows last = absurd kind
-  command_numbers (c.UpdateTx tx id user_type body) reply kind is grows last = absurd kind
-  command_numbers (c.DeleteTx tx id body) reply kind is grows last = absurd kind
-  command_numbers (c.Prepare tx extra) reply kind is grows last = absurd kind
-  command_numbers (c.Commit tx) reply kind is grows last = absurd kind
-  command_numbers (c.Rollback tx) reply kind is grows last = absurd kind
+  -- one append more, behind the buffer written out or not
+  record_numbers : (x : Answered) (len : ℕ) (b : Bool) → ticked x ≡ None → placed_at x ≡ Some old.appended → counted x ≡ None → Grows old.chronicle.receipts.items new.chronicle.receipts.items → IsReceipted new.chronicle.receipts.items (cond b (flushed old) old).durable
+      → Numbers (answered ++ x ∷ []) (with_record (Some len) (cond b (flushed old) old))
+  record_numbers x len true no_tick at no_count grows last = numbers_appended answered x _ old.clock old.appended old.appended None no_tick at no_count (first_flushed true grows last)
+  record_numbers x len false no_tick at no_count grows last = numbers_appended answered x _ old.clock old.appended old.durable old.since no_tick at no_count (first_flushed false grows last)
 
-  pub command_accepted : (command : Command) (reply : Reply) (b : Bool) (moment : ℕ) → IsPlainCommand command → reply ≡ reply_to old.appended command → new ≡ record (behind_command command old) { disk = new.disk; chronicle = new.chronicle }
-      → Notes 1 number command (Ok reply) (receipted b old.appended moment (Some (lists_of old.chronicle))) (Some (lists_of new.chronicle)) → IsLastCount new.durable new.chronicle.receipts.items → IsPlaying timeout (answered ++ (l.Plain command, Done reply) ∷ []) (number + 1) new
-  command_accepted command reply b moment kind is went notes last =
+  -- a command that was accepted
+  command_numbers : (line : Line) (command : Command) (reply : Reply) → ticked (line, Some (Done reply)) ≡ None → IsReply old.appended command reply → Grows old.chronicle.receipts.items new.chronicle.receipts.items → IsReceipted new.chronicle.receipts.items (behind_command command old).durable
+      → Numbers (answered ++ (line, Some (Done reply)) ∷ []) (behind_command command old)
+  command_numbers line command reply no_tick is grows last = by command is last where
+    appended : (command : Command) (len : ℕ) → reply ≡ Appended old.appended → IsReceipted new.chronicle.receipts.items (cond (flushes old.config.buffer_size old.waiting command) (flushed old) old).durable
+        → Numbers (answered ++ (line, Some (Done reply)) ∷ []) (with_record (Some len) (cond (flushes old.config.buffer_size old.waiting command) (flushed old) old))
+    appended command len is last = record_numbers (line, Some (Done reply)) len (flushes old.config.buffer_size old.waiting command) no_tick (ap (λ (r : Reply). placed_at (line, Some (Done r))) is) (ap (λ (r : Reply). counted (line, Some (Done r))) is) grows last
+
+    of_begin : (r : Reply) → IsReply old.appended c.Begin r → (placed_at (line, Some (Done r)) ≡ None) × (counted (line, Some (Done r)) ≡ None)
+    of_begin (Begun tx) is = (refl, refl)
+    of_begin (Appended place) is = absurd is
+    of_begin (Durable count) is = absurd is
+
+    by : (command : Command) → IsReply old.appended command reply → IsReceipted new.chronicle.receipts.items (behind_command command old).durable → Numbers (answered ++ (line, Some (Done reply)) ∷ []) (behind_command command old)
+    by (c.Add id user_type body) is last = appended (c.Add id user_type body) (len_of (r.Add id user_type body)) is last
+    by (c.Update id user_type body) is last = appended (c.Update id user_type body) (len_of (r.Update id user_type body)) is last
+    by (c.Delete id) is last = appended (c.Delete id) (len_of (r.Delete id)) is last
+    by (c.AddTx tx id user_type body) is last = appended (c.AddTx tx id user_type body) (len_of (r.AddTx tx id user_type body)) is last
+    by (c.UpdateTx tx id user_type body) is last = appended (c.UpdateTx tx id user_type body) (len_of (r.UpdateTx tx id user_type body)) is last
+    by (c.DeleteTx tx id body) is last = appended (c.DeleteTx tx id body) (len_of (r.DeleteTx tx id body)) is last
+    by (c.Prepare tx extra) is last = appended (c.Prepare tx extra) (len_of (r.Prepare tx 0 extra)) is last
+    by (c.Commit tx) is last = appended (c.Commit tx) (len_of (r.Commit tx 0)) is last
+    by (c.Rollback tx) is last = appended (c.Rollback tx) (len_of (r.Rollback tx)) is last
+    by c.Begin is last =
+        let none = of_begin reply is in
+        numbers_answered answered (line, Some (Done reply)) _ old.clock old.clock old.appended old.durable old.since (was.numbers.time ∙ sym (same_clock answered (line, Some (Done reply)) no_tick)) none.0 (inl none.1) (first_flushed false grows last)
+    by c.Flush is last =
+        numbers_answered answered (line, Some (Done reply)) _ old.clock old.clock old.appended old.appended None (was.numbers.time ∙ sym (same_clock answered (line, Some (Done reply)) no_tick)) (ap (λ (r : Reply). placed_at (line, Some (Done r))) is) (inr (ap (λ (r : Reply). counted (line, Some (Done r))) is)) (first_flushed true grows last)
+
+  pub command_accepted : (line : Line) (command : Command) (reply : Reply) (b : Bool) (moment : ℕ) → sent answered line ≡ Some command → IsReply old.appended command reply → new ≡ record (behind_command command old) { disk = new.disk; chronicle = new.chronicle }
+      → Notes 1 number command (Ok reply) (receipted b old.appended moment (Some (lists_of old.chronicle))) (Some (lists_of new.chronicle)) → IsLastCount new.durable new.chronicle.receipts.items → IsPlaying timeout (answered ++ (line, Some (Done reply)) ∷ []) (number + 1) new
+  command_accepted line command reply b moment sends is went notes last =
+      let x : Answered = (line, Some (Done reply)) in
       let n = noted number command (Ok reply) b old.appended moment (lists_of old.chronicle) (lists_of new.chronicle) refl notes in
       let durable : new.durable ≡ (behind_command command old).durable = ap (λ (e : EngineOf D Kept). e.durable) went in
       record {
-        numbers = as_new _ (behind_command command old) went (command_numbers command reply kind is n.receipts (subst (IsReceipted new.chronicle.receipts.items) durable (last_receipted new.durable new.chronicle.receipts.items last)));
-        steps = subst (λ ss. AreSteps (answered ++ (l.Plain command, Done reply) ∷ []) ss (number + 1)) (sym n.steps) (step_more answered old.chronicle.steps.items number n.step (l.Plain command, Done reply) was.steps n.seated n.numbered (said n));
-        answers = one_more_answer timeout answered (l.Plain command, Done reply) was.answers tt;
+        numbers = as_new _ (behind_command command old) went (command_numbers line command reply (sent_no_tick answered line command (Some (Done reply)) sends) is n.receipts (subst (IsReceipted new.chronicle.receipts.items) durable (last_receipted new.durable new.chronicle.receipts.items last)));
+        steps = subst (λ ss. AreSteps (answered ++ x ∷ []) ss (number + 1)) (sym n.steps) (step_more answered old.chronicle.steps.items number n.step x was.steps n.seated n.numbered (said answered line sends n));
+        answers = one_more_answer timeout answered x was.answers (sent_answer timeout answered line command (Done reply) sends);
       }
 
-  pub command_refused : (command : Command) (refusal : Refusal) (moment : ℕ) → is_noted (Err refusal) ≡ true → new ≡ record old { disk = new.disk; chronicle = new.chronicle; closed = new.closed }
-      → Notes 1 number command (Err refusal) (Some (lists_of old.chronicle)) (Some (lists_of new.chronicle)) → IsPlaying timeout (answered ++ (l.Plain command, Refused refusal) ∷ []) (number + 1) new
-  command_refused command refusal moment taken went notes =
+  pub command_refused : (line : Line) (command : Command) (refusal : Refusal) (moment : ℕ) → sent answered line ≡ Some command → is_noted (Err refusal) ≡ true → new ≡ record old { disk = new.disk; chronicle = new.chronicle; closed = new.closed }
+      → Notes 1 number command (Err refusal) (Some (lists_of old.chronicle)) (Some (lists_of new.chronicle)) → IsPlaying timeout (answered ++ (line, Some (Refused refusal)) ∷ []) (number + 1) new
+  command_refused line command refusal moment sends taken went notes =
       let n = noted number command (Err refusal) false old.appended moment (lists_of old.chronicle) (lists_of new.chronicle) taken notes in
-      let x : Answered = (l.Plain command, Refused refusal) in
+      let x : Answered = (line, Some (Refused refusal)) in
       record {
-        numbers = subst (Numbers (answered ++ x ∷ [])) (sym went) (numbers_answered answered x _ old.clock old.clock old.appended old.durable old.since (was.numbers.time ∙ sym (same_clock answered x refl)) refl (inl refl) (first_flushed false n.receipts (more_receipts _ _ n.receipts old.durable was.numbers.last)));
-        steps = subst (λ ss. AreSteps (answered ++ x ∷ []) ss (number + 1)) (sym n.steps) (step_more answered old.chronicle.steps.items number n.step x was.steps n.seated n.numbered (said n));
-        answers = one_more_answer timeout answered x was.answers tt;
+        numbers = subst (Numbers (answered ++ x ∷ [])) (sym went)
+            (numbers_answered answered x _ old.clock old.clock old.appended old.durable old.since (was.numbers.time ∙ sym (same_clock answered x (sent_no_tick answered line command (Some (Refused refusal)) sends))) refl (inl refl) (first_flushed false n.receipts (more_receipts _ _ n.receipts old.durable was.numbers.last)));
+        steps = subst (λ ss. AreSteps (answered ++ x ∷ []) ss (number + 1)) (sym n.steps) (step_more answered old.chronicle.steps.items number n.step x was.steps n.seated n.numbered (said answered line sends n));
+        answers = one_more_answer timeout answered x was.answers (sent_answer timeout answered line command (Refused refusal) sends);
       }
 
   pub tick_answered : (now count moment : ℕ) → timeout ≡ old.config.buffer_timeout → count ≡ new.durable → new ≡ record (behind_tick now old) { disk = new.disk; chronicle = new.chronicle }
-      → Some (lists_of new.chronicle) ≡ receipted (must_flush (at_clock now old)) old.appended moment (Some (lists_of old.chronicle)) → IsLastCount new.durable new.chronicle.receipts.items → IsPlaying timeout (answered ++ (l.Tick now, Done (Durable count)) ∷ []) number new
+      → Some (lists_of new.chronicle) ≡ receipted (must_flush (at_clock now old)) old.appended moment (Some (lists_of old.chronicle)) → IsLastCount new.durable new.chronicle.receipts.items → IsPlaying timeout (answered ++ (l.Tick now, Some (Done (Durable count))) ∷ []) number new
   tick_answered now count moment time is went receipt last = by (must_flush (at_clock now old)) refl where
     lists : (new.chronicle.steps.items ≡ old.chronicle.steps.items) × Grows old.chronicle.receipts.items new.chronicle.receipts.items
     lists = flushed_lists (must_flush (at_clock now old)) old.appended moment (lists_of old.chronicle) (lists_of new.chronicle) receipt
 
-    later : max old.clock now ≡ clock_of (answered ++ (l.Tick now, Done (Durable count)) ∷ [])
-    later = ap (λ k. max k now) was.numbers.time ∙ sym (later_clock answered (l.Tick now, Done (Durable count)) now refl)
+    later : max old.clock now ≡ clock_of (answered ++ (l.Tick now, Some (Done (Durable count))) ∷ [])
+    later = ap (λ k. max k now) was.numbers.time ∙ sym (later_clock answered (l.Tick now, Some (Done (Durable count))) now refl)
 
     receipted_now : IsReceipted new.chronicle.receipts.items new.durable
     receipted_now = last_receipted new.durable new.chronicle.receipts.items last
 
-    by : (b : Bool) → must_flush (at_clock now old) ≡ b → IsPlaying timeout (answered ++ (l.Tick now, Done (Durable count)) ∷ []) number new
+    by : (b : Bool) → must_flush (at_clock now old) ≡ b → IsPlaying timeout (answered ++ (l.Tick now, Some (Done (Durable count))) ∷ []) number new
     by true here =
         let gone : new ≡ record (flushed (at_clock now old)) { disk = new.disk; chronicle = new.chronicle } = went ∙ ap (λ b. record (cond b (flushed (at_clock now old)) (at_clock now old)) { disk = new.disk; chronicle = new.chronicle }) here in
         let all : count ≡ old.appended = is ∙ ap (λ (e : EngineOf D Kept). e.durable) gone in
         record {
-          numbers = subst (Numbers (answered ++ (l.Tick now, Done (Durable count)) ∷ [])) (sym gone) (numbers_answered answered (l.Tick now, Done (Durable count)) _ old.clock (max old.clock now) old.appended old.appended None later refl (inr (ap Some all)) (first_flushed true lists.1 (subst (IsReceipted new.chronicle.receipts.items) (ap (λ (e : EngineOf D Kept). e.durable) gone) receipted_now)));
-          steps = subst (λ ss. AreSteps (answered ++ (l.Tick now, Done (Durable count)) ∷ []) ss number) (sym lists.0) (steps_same answered old.chronicle.steps.items number (l.Tick now, Done (Durable count)) was.steps refl);
-          answers = one_more_answer timeout answered (l.Tick now, Done (Durable count)) was.answers (subst (λ (n : ℕ). IsTicked timeout answered now n) (sym all) (tick_flushes timeout answered _ old.clock old.appended old.durable now old.since was.numbers));
+          numbers = subst (Numbers (answered ++ (l.Tick now, Some (Done (Durable count))) ∷ [])) (sym gone) (numbers_answered answered (l.Tick now, Some (Done (Durable count))) _ old.clock (max old.clock now) old.appended old.appended None later refl (inr (ap Some all)) (first_flushed true lists.1 (subst (IsReceipted new.chronicle.receipts.items) (ap (λ (e : EngineOf D Kept). e.durable) gone) receipted_now)));
+          steps = subst (λ ss. AreSteps (answered ++ (l.Tick now, Some (Done (Durable count))) ∷ []) ss number) (sym lists.0) (steps_same answered old.chronicle.steps.items number (l.Tick now, Some (Done (Durable count))) was.steps refl);
+          answers = one_more_answer timeout answered (l.Tick now, Some (Done (Durable count))) was.answers (subst (λ (n : ℕ). IsTicked timeout answered now n) (sym all) (tick_flushes timeout answered _ old.clock old.appended old.durable now old.since was.numbers));
         }
     by false here =
         let gone : new ≡ record (at_clock now old) { disk = new.disk; chronicle = new.chronicle } = went ∙ ap (λ b. record (cond b (flushed (at_clock now old)) (at_clock now old)) { disk = new.disk; chronicle = new.chronicle }) here in
         let same : count ≡ old.durable = is ∙ ap (λ (e : EngineOf D Kept). e.durable) gone in
         record {
-          numbers = subst (Numbers (answered ++ (l.Tick now, Done (Durable count)) ∷ [])) (sym gone) (numbers_answered answered (l.Tick now, Done (Durable count)) _ old.clock (max old.clock now) old.appended old.durable old.since later refl (inr (ap Some same)) (first_flushed false lists.1 (more_receipts _ _ lists.1 old.durable was.numbers.last)));
-          steps = subst (λ ss. AreSteps (answered ++ (l.Tick now, Done (Durable count)) ∷ []) ss number) (sym lists.0) (steps_same answered old.chronicle.steps.items number (l.Tick now, Done (Durable count)) was.steps refl);
-          answers = one_more_answer timeout answered (l.Tick now, Done (Durable count)) was.answers (subst (λ (n : ℕ). IsTicked timeout answered now n) (sym same) (tick_waits timeout answered _ old.clock old.appended old.durable now old.since (ap (λ (t : ℕ). is_due (max old.clock now) t old.since) time ∙ here) was.numbers));
+          numbers = subst (Numbers (answered ++ (l.Tick now, Some (Done (Durable count))) ∷ [])) (sym gone) (numbers_answered answered (l.Tick now, Some (Done (Durable count))) _ old.clock (max old.clock now) old.appended old.durable old.since later refl (inr (ap Some same)) (first_flushed false lists.1 (more_receipts _ _ lists.1 old.durable was.numbers.last)));
+          steps = subst (λ ss. AreSteps (answered ++ (l.Tick now, Some (Done (Durable count))) ∷ []) ss number) (sym lists.0) (steps_same answered old.chronicle.steps.items number (l.Tick now, Some (Done (Durable count))) was.steps refl);
+          answers = one_more_answer timeout answered (l.Tick now, Some (Done (Durable count))) was.answers (subst (λ (n : ℕ). IsTicked timeout answered now n) (sym same) (tick_waits timeout answered _ old.clock old.appended old.durable now old.since (ap (λ (t : ℕ). is_due (max old.clock now) t old.since) time ∙ here) was.numbers));
         }
 
-plain_built : (command : Command) → IsTrue (is_built (l.Plain command)) → IsPlainCommand command
-plain_built (c.Add id user_type body) built = tt
-plain_built (c.Update id user_type body) built = tt
-plain_built (c.Delete id) built = tt
-plain_built c.Flush built = tt
-plain_built c.Begin built = absurd cc
-plain_built (c.AddTx tx id user_type body) built = absurd cc
-plain_built (c.UpdateTx tx id user_type body) built = absurd cc
-plain_built (c.DeleteTx tx id body) built = absurd cc
-plain_built (c.Prepare tx extra) built = absurd cc
-plain_built (c.Commit tx) built = absurd cc
-plain_built (c.Rollback tx) built = absurd cc
+-- ---- labels
 
--- a command that a replay takes is of no transaction
-pub built_kind : (line : Line) (command : Command) → IsTrue (is_built line) → line ≡ l.Plain command → IsPlainCommand command
-built_kind line command built is = plain_built command (subst (λ (x : Line). IsTrue (is_built x)) is built)
+-- a bind is no command
+pub bound : {D : Type 0} (timeout : ℕ) (answered : List Answered) (number : ℕ) (e : EngineOf D Kept) (label : List ℕ) (tx : ℕ) → IsPlaying timeout answered number e → IsPlaying timeout (answered ++ (l.Bind label tx, None) ∷ []) number e
+bound timeout answered number e label tx was = record {
+  numbers = numbers_answered answered (l.Bind label tx, None) _ e.clock e.clock e.appended e.durable e.since (was.numbers.time ∙ sym (same_clock answered (l.Bind label tx, None) refl)) refl (inl refl) was.numbers;
+  steps = steps_same answered _ number (l.Bind label tx, None) was.steps refl;
+  answers = one_more_answer timeout answered (l.Bind label tx, None) was.answers tt;
+}
+
+-- a line that begins nothing leaves each label as it is
+pub not_begun : (name label : List ℕ) (command : Command) (answer : Option Answer) (before : ℕ) → is_begin command ≡ false → before ≡ number_behind label before (l.Labelled name command, answer)
+not_begun name label c.Begin answer before is = absurd cc
+not_begun name label (c.Add id user_type body) answer before is = refl
+not_begun name label (c.Update id user_type body) answer before is = refl
+not_begun name label (c.Delete id) answer before is = refl
+not_begun name label (c.AddTx tx id user_type body) answer before is = refl
+not_begun name label (c.UpdateTx tx id user_type body) answer before is = refl
+not_begun name label (c.DeleteTx tx id body) answer before is = refl
+not_begun name label (c.Prepare tx extra) answer before is = refl
+not_begun name label (c.Commit tx) answer before is = refl
+not_begun name label (c.Rollback tx) answer before is = refl
+not_begun name label c.Flush answer before is = refl
+
+pub begins : (command : Command) → is_begin command ≡ true → command ≡ c.Begin
+begins c.Begin is = refl
+begins (c.Add id user_type body) is = absurd cc
+begins (c.Update id user_type body) is = absurd cc
+begins (c.Delete id) is = absurd cc
+begins (c.AddTx tx id user_type body) is = absurd cc
+begins (c.UpdateTx tx id user_type body) is = absurd cc
+begins (c.DeleteTx tx id body) is = absurd cc
+begins (c.Prepare tx extra) is = absurd cc
+begins (c.Commit tx) is = absurd cc
+begins (c.Rollback tx) is = absurd cc
+begins c.Flush is = absurd cc
+
+-- what holds of each answer holds of this one too
+pub with_each : {X E : Type 0} (r : Result X E) (P Q : X → Type 0) → ((x : X) → Q x) → IfOk r P → IfOk r (λ x. P x × Q x)
+with_each (Ok x) P Q each is = (is, each x)
+with_each (Err e) P Q each is = is

@@ -1,23 +1,22 @@
 -- How a replay goes on by a line, and how it ends.
-use Rattle.std.proofs.Common.{◌≡◌, ◌⊎◌, inl, inr, ℕ, ◌+◌, ◌-◌, ◌≤◌, Bool, true, false, List, [], ◌∷◌, ◌++◌, length, take, map, Option, None, Some, refl, sym, ap, subst, ◌∙◌, append_assoc, arith}
-use Rattle.std.specs.Prelude.{All, Result, Err, reverse}
-use Rattle.std.proofs.lemmas.List.{append-nil, length-append, length-map, length-take, length-take-le, map-append, take-append-le, take_all, reverse-append}
+use Rattle.std.proofs.Common.{◌≡◌, ◌⊎◌, inl, inr, ℕ, ◌<◌, ◌≤◌, Bool, true, false, List, [], ◌∷◌, ◌++◌, length, map, Option, None, Some, refl, sym, ap, subst, ◌∙◌, append_assoc, arith}
+use Rattle.std.specs.Prelude.{All, Err, reverse}
+use Rattle.std.proofs.lemmas.List.{append-nil, length-append, length-map, length-take, map-append, take-append-le, take_all, reverse-append}
+use Rattle.std.proofs.lemmas.List.Elements.{All-head, All-tail}
 use Rattle.std.proofs.lemmas.Grind.{flat_map-append}
 use Rattle.amq_model.specs.declared.script.Line.{Line}
 use Rattle.amq_model.specs.declared.history.Answer.{Answer}
-use Rattle.amq_model.specs.declared.history.Answer.TheVariants.{Refused}
 use Rattle.amq_model.specs.declared.history.Step.{Step}
 use Rattle.amq_model.specs.declared.refusal.DiskCall.{DiskCall}
 use Rattle.amq_model.specs.declared.refusal.Refusal.{Refusal}
 use Rattle.amq_model.specs.declared.refusal.Refusal.TheVariants as r
-use Rattle.amq_model.specs.Texts.{reply_line, refusal_line}
 use Rattle.amq_engine.specs.declared.chronicle.Kept.{Kept}
 use Rattle.amq_engine.specs.declared.chronicle.Receipted.{Receipted}
 use Rattle.amq_engine.specs.Lists.{Lists}
 use Rattle.amq_engine.specs.Engine.{EngineOf, is_noted, IsFlushRefusal}
 use Rattle.amq_cli.specs.Offline.{lists_of}
-use Rattle.amq_cli.specs.Replay.{Answered, reply_lines, AreAnswered, HasEnded, HasReplayed, IsLast, is_for_memory}
-use Rattle.amq_cli.specs.Playing.{IsPlaying, HasPlayed}
+use Rattle.amq_cli.specs.Replay.{Answered, line_of, reply_lines, AreAnswered, HasEnded, HasReplayed, IsLast}
+use Rattle.amq_cli.specs.Playing.{IsPlaying, HasPlayed, AreNumbersOf}
 
 -- a refusal that isn't an answer, of a journal that isn't closed
 pub last_of_command : (refusal : Refusal) → is_noted (Err refusal) ≡ false → ((call : DiskCall) → refusal ≡ r.Closed call → ⊥) → IsLast refusal
@@ -50,8 +49,8 @@ last_of_tick (r.Compacting phase) is unclosed = absurd is
 last_of_tick (r.FileIdsSpent highest) is unclosed = absurd is
 last_of_tick (r.FileFull len left) is unclosed = absurd is
 
-lines_more : (answered : List Answered) (x : Answered) → reply_lines (answered ++ x ∷ []) ≡ reply_lines answered ++ reply_line x.1
-lines_more answered x = flat_map-append (λ (x : Answered). reply_line x.1) answered (x ∷ []) ∙ ap (λ (t : List ℕ). reply_lines answered ++ t) (append-nil (reply_line x.1))
+lines_more : (answered : List Answered) (x : Answered) → reply_lines (answered ++ x ∷ []) ≡ reply_lines answered ++ line_of x
+lines_more answered x = flat_map-append line_of answered (x ∷ []) ∙ ap (λ (t : List ℕ). reply_lines answered ++ t) (append-nil (line_of x))
 
 module _ {D : Type 0} (timeout : ℕ) where
   -- what was played is a front of any script that goes on with these lines
@@ -67,33 +66,37 @@ module _ {D : Type 0} (timeout : ℕ) where
     long = sym (length-map answered (λ (x : Answered). x.0)) ∙ ap length lines
 
   -- a line was answered, and its text written
-  pub line_played : (done : List Line) (line : Line) (answer : Answer) (number number' : ℕ) (old new : EngineOf D Kept) (before after : List ℕ) → HasPlayed timeout done number old before
-      → ((answered : List Answered) → IsPlaying timeout answered number old → IsPlaying timeout (answered ++ (line, answer) ∷ []) number' new) → after ≡ before ++ reply_line answer → HasPlayed timeout (done ++ line ∷ []) number' new after
-  line_played done line answer number number' old new before after was goes is = record {
+  pub line_played : (done : List Line) (line : Line) (answer : Option Answer) (labels labels' : List ℕ → ℕ) (number number' : ℕ) (old new : EngineOf D Kept) (before after : List ℕ) → HasPlayed timeout done labels number old before
+      → ((answered : List Answered) → AreNumbersOf labels answered → IsPlaying timeout answered number old → IsPlaying timeout (answered ++ (line, answer) ∷ []) number' new × AreNumbersOf labels' (answered ++ (line, answer) ∷ [])) → after ≡ before ++ line_of (line, answer)
+      → HasPlayed timeout (done ++ line ∷ []) labels' number' new after
+  line_played done line answer labels labels' number number' old new before after was goes is = record {
     answered = was.answered ++ (line, answer) ∷ [];
     lines = map-append (λ (x : Answered). x.0) was.answered ((line, answer) ∷ []) ∙ ap (λ (ls : List Line). ls ++ line ∷ []) was.lines;
-    playing = goes was.answered was.playing;
-    is = is ∙ ap (λ (t : List ℕ). t ++ reply_line answer) was.is ∙ sym (lines_more was.answered (line, answer));
+    playing = (goes was.answered was.labelled was.playing).0;
+    labelled = (goes was.answered was.labelled was.playing).1;
+    is = is ∙ ap (λ (t : List ℕ). t ++ line_of (line, answer)) was.is ∙ sym (lines_more was.answered (line, answer));
   }
 
   -- a line was answered, and there was no memory for its text
-  pub line_unwritten : (done : List Line) (line : Line) (answer : Answer) (number number' : ℕ) (old new : EngineOf D Kept) (before after : List ℕ) → HasPlayed timeout done number old before
-      → ((answered : List Answered) → IsPlaying timeout answered number old → IsPlaying timeout (answered ++ (line, answer) ∷ []) number' new) → after ≡ before → HasEnded timeout (done ++ line ∷ []) new.chronicle.steps.items new.chronicle.receipts.items after [] true
-  line_unwritten done line answer number number' old new before after was goes is =
+  pub line_unwritten : (done : List Line) (line : Line) (answer : Option Answer) (labels labels' : List ℕ → ℕ) (number number' : ℕ) (old new : EngineOf D Kept) (before after : List ℕ) → HasPlayed timeout done labels number old before
+      → ((answered : List Answered) → AreNumbersOf labels answered → IsPlaying timeout answered number old → IsPlaying timeout (answered ++ (line, answer) ∷ []) number' new × AreNumbersOf labels' (answered ++ (line, answer) ∷ [])) → after ≡ before
+      → HasEnded timeout (done ++ line ∷ []) new.chronicle.steps.items new.chronicle.receipts.items after [] true
+  line_unwritten done line answer labels labels' number number' old new before after was goes is =
       let all : List Answered = was.answered ++ (line, answer) ∷ [] in
       let lines : map (λ (x : Answered). x.0) all ≡ done ++ line ∷ [] = map-append (λ (x : Answered). x.0) was.answered ((line, answer) ∷ []) ∙ ap (λ (ls : List Line). ls ++ line ∷ []) was.lines in
       record {
         answered = all;
-        are = subst (λ (ls : List Line). AreAnswered timeout ls new.chronicle.steps.items new.chronicle.receipts.items all) (append-nil (done ++ line ∷ [])) (are_answered (done ++ line ∷ []) [] number' all new lines (goes was.answered was.playing));
-        rest = reply_line answer;
-        is = ap (λ (t : List ℕ). t ++ reply_line answer) (is ∙ was.is) ∙ sym (lines_more was.answered (line, answer)) ∙ sym (append-nil (reply_lines all));
+        are = subst (λ (ls : List Line). AreAnswered timeout ls new.chronicle.steps.items new.chronicle.receipts.items all) (append-nil (done ++ line ∷ [])) (are_answered (done ++ line ∷ []) [] number' all new lines (goes was.answered was.labelled was.playing).0);
+        rest = line_of (line, answer);
+        is = ap (λ (t : List ℕ). t ++ line_of (line, answer)) (is ∙ was.is) ∙ sym (lines_more was.answered (line, answer)) ∙ sym (append-nil (reply_lines all));
         whole = inl refl;
+        early = inl refl;
       }
 
   -- a line ended the replay
-  pub line_refused : (done : List Line) (line : Line) (number : ℕ) (old new : EngineOf D Kept) (before after ending : List ℕ) (short : Bool) → HasPlayed timeout done number old before → lists_of new.chronicle ≡ lists_of old.chronicle → after ≡ before ++ ending
+  pub line_refused : (done : List Line) (line : Line) (labels : List ℕ → ℕ) (number : ℕ) (old new : EngineOf D Kept) (before after ending : List ℕ) (short : Bool) → HasPlayed timeout done labels number old before → lists_of new.chronicle ≡ lists_of old.chronicle → after ≡ before ++ ending
       → HasEnded timeout (done ++ line ∷ []) new.chronicle.steps.items new.chronicle.receipts.items after ending short
-  line_refused done line number old new before after ending short was kept is =
+  line_refused done line labels number old new before after ending short was kept is =
       let are = are_answered done (line ∷ []) number was.answered old was.lines was.playing in
       record {
         answered = was.answered;
@@ -101,11 +104,12 @@ module _ {D : Type 0} (timeout : ℕ) where
         rest = [];
         is = append-nil after ∙ is ∙ ap (λ (t : List ℕ). t ++ ending) was.is;
         whole = inr refl;
+        early = inr (omega (arith, sym (length-map was.answered (λ (x : Answered). x.0)) ∙ ap length was.lines, length-append done (line ∷ [])));
       }
 
   -- all lines were answered
-  pub all_played : (done : List Line) (number : ℕ) (e : EngineOf D Kept) (text : List ℕ) → HasPlayed timeout done number e text → HasReplayed timeout done e.chronicle.steps.items e.chronicle.receipts.items text
-  all_played done number e text p = record {
+  pub all_played : (done : List Line) (labels : List ℕ → ℕ) (number : ℕ) (e : EngineOf D Kept) (text : List ℕ) → HasPlayed timeout done labels number e text → HasReplayed timeout done e.chronicle.steps.items e.chronicle.receipts.items text
+  all_played done labels number e text p = record {
     answered = p.answered;
     are = subst (λ (ls : List Line). AreAnswered timeout ls e.chronicle.steps.items e.chronicle.receipts.items p.answered) (append-nil done) (are_answered done [] number p.answered e p.lines p.playing);
     all = sym (length-map p.answered (λ (x : Answered). x.0)) ∙ ap length p.lines;
@@ -137,4 +141,17 @@ ended_more timeout front more steps receipts text ending short e =
       rest = e.rest;
       is = e.is;
       whole = e.whole;
-    }
+      early = by e.early;
+    } where
+      by : (short ≡ true) ⊎ (length e.answered < length front) → (short ≡ true) ⊎ (length e.answered < length (front ++ more))
+      by (inl memory) = inl memory
+      by (inr lt) = inr (omega (arith, lt, length-append front more))
+
+-- what is so of all lines is so of the last one
+pub last_of_all : {X : Type 0} (P : X → Type 0) (xs : List X) (x : X) → All P (xs ++ x ∷ []) → P x
+last_of_all P [] x all = All-head P x [] all
+last_of_all P (y ∷ ys) x all = last_of_all P ys x (All-tail P y (ys ++ x ∷ []) all)
+
+-- labels that stand for the same numbers
+pub same_labels : {D : Type 0} (timeout : ℕ) (done : List Line) (labels labels' : List ℕ → ℕ) (number : ℕ) (e : EngineOf D Kept) (text : List ℕ) → ((label : List ℕ) → labels' label ≡ labels label) → HasPlayed timeout done labels number e text → HasPlayed timeout done labels' number e text
+same_labels timeout done labels labels' number e text same p = record { answered = p.answered; lines = p.lines; playing = p.playing; labelled = λ label. same label ∙ p.labelled label; is = p.is }

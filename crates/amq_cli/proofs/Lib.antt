@@ -5,5 +5,6 @@ pub mod Ending
 pub mod Running
 pub mod Outputs
 pub mod Reloading
+pub mod Labelling
 pub mod ReplayExamples
 pub mod Recovering

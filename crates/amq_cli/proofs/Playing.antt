@@ -1,23 +1,16 @@
 -- A replay under way, line by line.
-use Rattle.std.proofs.Common.{◌≡◌, ◌⊎◌, inl, inr, ℕ, ◌+◌, ◌-◌, ◌<◌, ◌≤◌, Bool, true, false, cond, leb, eqb, List, [], ◌∷◌, ◌++◌, length, map, Option, None, Some, refl, sym, ap, subst, ◌∙◌, append_assoc, arith}
-use Rattle.std.specs.Prelude.{max, fold, All, IsTrue, is_some, ◌↔◌, ◌||◌}
-use Rattle.std.specs.List.{filter_map, list_any, cons_option}
+use Rattle.std.proofs.Common.{◌≡◌, ◌⊎◌, inl, inr, ℕ, ◌+◌, ◌-◌, ◌<◌, ◌≤◌, false, List, [], ◌∷◌, ◌++◌, length, Option, None, Some, refl, sym, ap, subst, ◌∙◌, append_assoc, arith}
+use Rattle.std.specs.Prelude.{max, fold, All}
+use Rattle.std.specs.List.{filter_map, cons_option}
 use Rattle.std.proofs.lemmas.Bool.{leb-false}
 use Rattle.std.proofs.lemmas.List.{append-nil, length-append, map-append}
 use Rattle.std.proofs.lemmas.List.Sums.{fold_push}
 use Rattle.std.proofs.lemmas.List.Elements.{All-push, All-head, All-tail, filter_map-append}
-use Rattle.amq_model.specs.declared.command.Command.{Command}
-use Rattle.amq_model.specs.declared.command.Reply.TheVariants.{Appended, Durable}
-use Rattle.amq_model.specs.declared.script.Line.{Line}
-use Rattle.amq_model.specs.declared.script.Line.TheVariants as l
-use Rattle.amq_model.specs.declared.history.Answer.{Answer}
-use Rattle.amq_model.specs.declared.history.Answer.TheVariants.{Done, Refused}
 use Rattle.amq_model.specs.declared.history.Step.{Step}
 use Rattle.amq_engine.specs.Engine.{begun, is_due}
-use Rattle.amq_scan.proofs.Parts.{all_by, all_has}
 use Rattle.amq_engine.specs.declared.chronicle.Receipted.{Receipted}
-use Rattle.amq_cli.specs.Replay.{Answered, commanded, placed_at, counted, ticked, clock_of, reply_lines, AreLineAnswers, IsLineAnswer, IsTicked, AreNumbered, IsReceipted}
-use Rattle.amq_cli.specs.Playing.{AreNumbers, AreSteps}
+use Rattle.amq_cli.specs.Replay.{Answered, commanded, all_commanded, number_behind, placed_at, counted, ticked, clock_of, AreLineAnswers, IsLineAnswer, IsTicked, AreNumbered, IsReceipted}
+use Rattle.amq_cli.specs.Playing.{AreNumbers, AreSteps, AreNumbersOf}
 
 -- ---- lists
 
@@ -199,14 +192,29 @@ numbered-snoc : (n : ℕ) (steps : List Step) (s : Step) → AreNumbered n steps
 numbered-snoc n [] s are seat number = (seat, number ∙ omega arith, tt)
 numbered-snoc n (t ∷ ts) s are seat number = (are.0, are.1, numbered-snoc (n + 1) ts s are.2 seat (number ∙ omega arith))
 
+-- one line more gives the command that it sends behind all the others, if it sends one
+commanded_one_more : (before answered : List Answered) (x : Answered) → all_commanded before (answered ++ x ∷ []) ≡ all_commanded before answered ++ cons_option (commanded (before ++ answered) x) []
+commanded_one_more before [] x = ap (λ (xs : List Answered). cons_option (commanded xs x) []) (sym (append-nil before))
+commanded_one_more before (y ∷ ys) x =
+    ap (cons_option (commanded before y)) (commanded_one_more (before ++ y ∷ []) ys x) ∙ ap (λ (xs : List Answered). cons_option (commanded before y) (all_commanded (before ++ y ∷ []) ys ++ cons_option (commanded xs x) [])) (append_assoc before (y ∷ []) ys) ∙ by (all_commanded (before ++ y ∷ []) ys) (cons_option (commanded (before ++ y ∷ ys) x) []) (commanded before y) where
+      by : {Y : Type 0} (cs ds : List Y) (o : Option Y) → cons_option o (cs ++ ds) ≡ cons_option o cs ++ ds
+      by cs ds None = refl
+      by cs ds (Some c) = refl
+
 -- a command's step
-pub step_more : (answered : List Answered) (steps : List Step) (number : ℕ) (s : Step) (x : Answered) → AreSteps answered steps number → s.seat ≡ 1 → s.number ≡ number → commanded x ≡ Some (s.command, s.answer) → AreSteps (answered ++ x ∷ []) (steps ++ s ∷ []) (number + 1)
+pub step_more : (answered : List Answered) (steps : List Step) (number : ℕ) (s : Step) (x : Answered) → AreSteps answered steps number → s.seat ≡ 1 → s.number ≡ number → commanded answered x ≡ Some (s.command, s.answer) → AreSteps (answered ++ x ∷ []) (steps ++ s ∷ []) (number + 1)
 step_more answered steps number s x are seat numbered is = record {
-  commands = map-append (λ (s : Step). (s.command, s.answer)) steps (s ∷ []) ∙ ap (λ cs. cs ++ (s.command, s.answer) ∷ []) are.commands ∙ sym (some_more commanded answered x (s.command, s.answer) is);
+  commands = map-append (λ (s : Step). (s.command, s.answer)) steps (s ∷ []) ∙ ap (λ cs. cs ++ (s.command, s.answer) ∷ []) are.commands ∙ sym (commanded_one_more [] answered x ∙ ap (λ o. all_commanded [] answered ++ cons_option o []) is);
   numbered = numbered-snoc 1 steps s are.numbered seat (numbered ∙ are.next ∙ omega arith);
   next = omega (arith, are.next, length-append steps (s ∷ []));
 }
 
 -- a line without a command
-pub steps_same : (answered : List Answered) (steps : List Step) (number : ℕ) (x : Answered) → AreSteps answered steps number → commanded x ≡ None → AreSteps (answered ++ x ∷ []) steps number
-steps_same answered steps number x are is = record { commands = are.commands ∙ sym (none_more commanded answered x is); numbered = are.numbered; next = are.next }
+pub steps_same : (answered : List Answered) (steps : List Step) (number : ℕ) (x : Answered) → AreSteps answered steps number → commanded answered x ≡ None → AreSteps (answered ++ x ∷ []) steps number
+steps_same answered steps number x are is = record { commands = are.commands ∙ sym (commanded_one_more [] answered x ∙ ap (λ o. all_commanded [] answered ++ cons_option o []) is ∙ append-nil (all_commanded [] answered)); numbered = are.numbered; next = are.next }
+
+-- ---- labels
+
+-- behind one more line, each label stands for this number
+pub labels_behind : (old new : List ℕ → ℕ) (answered : List Answered) (x : Answered) → AreNumbersOf old answered → ((label : List ℕ) → new label ≡ number_behind label (old label) x) → AreNumbersOf new (answered ++ x ∷ [])
+labels_behind old new answered x are is label = is label ∙ ap (λ (n : ℕ). number_behind label n x) (are label) ∙ sym (fold_push (number_behind label) 0 answered x)

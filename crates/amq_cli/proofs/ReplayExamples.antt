@@ -1,6 +1,5 @@
 -- Lines of a replay that may be answered so, and lines that may not.
-use Rattle.std.proofs.Common.{◌≡◌, ◌⊎◌, inl, inr, ℕ, ◌-◌, ◌<◌, ◌≤◌, true, false, List, [], ◌∷◌, ◌++◌, length, map, codes, Some, All, refl, sym, ap, subst, ◌∙◌, true≢false, arith}
-use Rattle.std.specs.List.{filter_map}
+use Rattle.std.proofs.Common.{◌≡◌, ◌⊎◌, inl, inr, ℕ, ◌-◌, ◌<◌, ◌≤◌, true, false, List, [], ◌∷◌, ◌++◌, length, map, codes, None, Some, All, refl, sym, ap, subst, ◌∙◌, true≢false, arith}
 use Rattle.std.proofs.lemmas.List.Elements.{All-nil, All-cons, All-head, All-tail}
 use Rattle.std.specs.Fmt.{digits}
 use Rattle.amq_model.specs.declared.record.Record.TheVariants as rec
@@ -12,9 +11,8 @@ use Rattle.amq_model.specs.declared.script.Line.TheVariants as l
 use Rattle.amq_model.specs.declared.history.Answer.{Answer}
 use Rattle.amq_model.specs.declared.history.Answer.TheVariants.{Done}
 use Rattle.amq_model.specs.declared.history.Step.{Step}
-use Rattle.amq_model.specs.Texts.{reply_line}
 use Rattle.amq_engine.specs.declared.chronicle.Receipted.{Receipted}
-use Rattle.amq_cli.specs.Replay.{Answered, commanded, placed_at, reply_lines, IsTicked, IsReceipted, AreAnswered, HasEnded}
+use Rattle.amq_cli.specs.Replay.{Answered, placed_at, reply_lines, IsTicked, IsReceipted, AreAnswered, HasEnded, all_commanded, line_of, IsLineAnswer}
 
 -- ---- the lines
 
@@ -26,11 +24,11 @@ update = c.Update 1 8 (0x6a ∷ [])
 
 -- an append of this place
 abbrev appended : Command → ℕ → Answered
-appended command place = (l.Plain command, Done (Appended place))
+appended command place = (l.Plain command, Some (Done (Appended place)))
 
 -- a tick at this moment
 abbrev durable : ℕ → ℕ → Answered
-durable now count = (l.Tick now, Done (Durable count))
+durable now count = (l.Tick now, Some (Done (Durable count)))
 
 -- ---- a tick behind an add and an update, with a timeout of 3
 
@@ -121,11 +119,23 @@ a_tick_too_late h = let young : 3 - 0 < 3 = h.answers.1.0.young [] (appended add
 -- memory was short in the middle of the second line
 pub cut_short : HasEnded 3 lines (first ∷ second ∷ []) receipts (codes "ok 0\ndur") [] true
 unfolding digits
-cut_short = record { answered = answered; are = three_lines; rest = codes "able 1\nok 1\n"; is = refl; whole = inl refl }
+cut_short = record { answered = answered; are = three_lines; rest = codes "able 1\nok 1\n"; is = refl; whole = inl refl; early = inl refl }
 
-pub all_of_it : HasEnded 3 lines (first ∷ second ∷ []) receipts (codes "ok 0\ndurable 1\nok 1\n") [] false
+-- the first two lines were answered
+two_lines : AreAnswered 3 lines (first ∷ []) receipts (appended add 0 ∷ durable 3 1 ∷ [])
+two_lines = record { front = refl; commands = refl; numbered = (refl, refl, tt); receipted = three_lines.receipted; answers = (three_lines.answers.0, (three_lines.answers.1.0, tt)) }
+
+-- a disk call failed at the third one
+pub ended_by_a_disk_call : HasEnded 3 lines (first ∷ []) receipts (codes "ok 0\ndurable 1\nrefused Disk WriteAt\n") (codes "refused Disk WriteAt\n") false
 unfolding digits
-all_of_it = record { answered = answered; are = three_lines; rest = []; is = refl; whole = inr refl }
+ended_by_a_disk_call = record { answered = appended add 0 ∷ durable 3 1 ∷ []; are = two_lines; rest = []; is = refl; whole = inr refl; early = inr (omega arith) }
+
+-- the replay of no line doesn't end early
+pub ended_before_no_line : HasEnded 3 [] [] receipts (codes "refused Disk WriteAt\n") (codes "refused Disk WriteAt\n") false → ⊥
+ended_before_no_line h = by h.early where
+  by : (false ≡ true) ⊎ (length h.answered < 0) → ⊥
+  by (inl e) = true≢false (sym e)
+  by (inr lt) = omega (arith, lt)
 
 -- the one step's line is there, unless memory was short
 pub cut_short_for_nothing : HasEnded 3 lines (first ∷ []) receipts [] [] false → ⊥
@@ -138,21 +148,22 @@ cut_short_for_nothing h = by h.answered h.are (is h.whole) where
   none : (b : ℕ) (bs : List ℕ) → [] ≡ b ∷ bs → ⊥
   none b bs e = cc
 
-  shown : (a : Answer) (others : List Answered) → a ≡ Done (Appended 0) → [] ≡ (reply_line a ++ reply_lines others) ++ [] → ⊥
-  shown a others is e = none 111 (107 ∷ 32 ∷ 48 ∷ 10 ∷ (reply_lines others ++ [])) (subst (λ v. [] ≡ (reply_line v ++ reply_lines others) ++ []) is e)
+  shown : (x : Answered) (others : List Answered) → x.1 ≡ Some (Done (Appended 0)) → [] ≡ (line_of x ++ reply_lines others) ++ [] → ⊥
+  shown (line, answer) others first e = none 111 (107 ∷ 32 ∷ 48 ∷ 10 ∷ (reply_lines others ++ [])) (subst (λ v. [] ≡ (line_of (line, v) ++ reply_lines others) ++ []) first e)
 
   first_of : List (Command × Answer) → Answer
   first_of [] = Done (Appended 0)
   first_of (y ∷ ys) = y.1
 
-  head : (x : Answered) (xs : List Answered) → x.0 ≡ l.Plain add → map (λ s. (s.command, s.answer)) (first ∷ []) ≡ filter_map commanded (x ∷ xs) → x.1 ≡ Done (Appended 0)
-  head (line, answer) xs e commands = sym (ap first_of (subst (λ v. map (λ s. (s.command, s.answer)) (first ∷ []) ≡ filter_map commanded ((v, answer) ∷ xs)) e commands))
+  head : (x : Answered) (xs : List Answered) → x.0 ≡ l.Plain add → IsLineAnswer 3 [] x.0 x.1 → map (λ s. (s.command, s.answer)) (first ∷ []) ≡ all_commanded [] (x ∷ xs) → x.1 ≡ Some (Done (Appended 0))
+  head (line, Some answer) xs e may commands = ap Some (sym (ap first_of (subst (λ v. map (λ s. (s.command, s.answer)) (first ∷ []) ≡ all_commanded [] ((v, Some answer) ∷ xs)) e commands)))
+  head (line, None) xs e may commands = absurd (subst (λ v. IsLineAnswer 3 [] v None) e may)
 
   -- the line of the first one of these
-  line_of : List Line → Line
-  line_of [] = l.Plain add
-  line_of (y ∷ ys) = y
+  first_line : List Line → Line
+  first_line [] = l.Plain add
+  first_line (y ∷ ys) = y
 
   by : (xs : List Answered) → AreAnswered 3 lines (first ∷ []) receipts xs → [] ≡ reply_lines xs ++ [] → ⊥
   by [] are e = let n : ◌≡◌ {A = ℕ} 1 0 = ap length are.commands in omega (arith, n)
-  by (x ∷ xs) are e = shown x.1 xs (head x xs (ap line_of are.front) are.commands) e
+  by (x ∷ xs) are e = shown x xs (head x xs (ap first_line are.front) are.answers.0 are.commands) e

@@ -1,13 +1,15 @@
 -- The text of a run, however it ended.
-use Rattle.std.proofs.Common.{◌≡◌, ◌⊎◌, inl, inr, ℕ, Bool, true, false, List, [], ◌∷◌, ◌++◌, length, Option, None, Some, refl, sym, ap, subst, ◌∙◌, arith}
-use Rattle.std.specs.Prelude.{All, Result, Ok, Err, IsSome}
-use Rattle.std.specs.List.{filter_map}
+use Rattle.std.proofs.Common.{◌≡◌, ◌⊎◌, inl, inr, ℕ, ◌<◌, Bool, true, false, List, [], ◌∷◌, ◌++◌, length, Option, None, Some, refl, sym, ap, subst, ◌∙◌, arith}
+use Rattle.std.specs.Prelude.{Err, IsSome}
 use Rattle.std.proofs.lemmas.List.{append-nil}
 use Rattle.amq_model.specs.declared.script.Line.{Line}
 use Rattle.amq_model.specs.declared.history.Step.{Step}
 use Rattle.amq_model.specs.declared.refusal.DiskCall.{DiskCall}
 use Rattle.amq_model.specs.declared.refusal.Refusal.{Refusal}
 use Rattle.amq_model.specs.declared.refusal.Refusal.TheVariants as r
+use Rattle.amq_model.specs.declared.config.Config.{Config}
+use Rattle.amq_model.specs.declared.record.Placed.{Placed}
+use Rattle.amq_model.specs.declared.state.LoadState.{LoadState}
 use Rattle.amq_model.specs.Calls.{Past}
 use Rattle.amq_model.specs.Texts.{refusal_line, report_of}
 use Rattle.amq_io.specs.Cause.{Faults}
@@ -20,9 +22,9 @@ use Rattle.amq_engine.specs.Engine.{EngineOf, AreBegun, receipted, HasCause}
 use Rattle.amq_cli.specs.declared.status.Status.{Status}
 use Rattle.amq_cli.specs.declared.status.Status.TheVariants as s
 use Rattle.amq_cli.specs.Statuses.{status_of, status_of_opening}
-use Rattle.amq_cli.specs.Playing.{AreNumbers, AreSteps, HasPlayed}
-use Rattle.amq_cli.specs.Offline.{lists_of, HasText, IsEnding, IsReported, HasDiskCause, is_short}
-use Rattle.amq_cli.specs.Replay.{Answered, reply_lines, counted, AreAnswered, HasEnded, HasReplayed, IsReceipted, IsLast, IsClosedBy, is_for_memory}
+use Rattle.amq_cli.specs.Playing.{AreSteps, HasPlayed}
+use Rattle.amq_cli.specs.Offline.{lists_of, HasText, HasRunOn, IsEnding, IsLoadedState, AreAll, HasDiskCause}
+use Rattle.amq_cli.specs.Replay.{Answered, reply_lines, AreAnswered, HasEnded, HasReplayed, IsReceipted, IsLast, IsClosedBy, is_for_memory}
 use Rattle.amq_cli.proofs.Answering.{Grows, more_receipts, flushed_lists}
 
 -- with more receipts
@@ -41,22 +43,12 @@ module _ (timeout : ℕ) (lines : List Line) (old new : Lists) (b : Bool) (appen
   replayed_closed text replayed = let f = flushed_lists b appended moment old new closed in record { answered = replayed.answered; are = answered_more timeout lines old.steps new.steps old.receipts new.receipts replayed.answered f.0 f.1 replayed.are; all = replayed.all; is = replayed.is }
 
   pub ended_closed : (text ending : List ℕ) (short : Bool) → HasEnded timeout lines old.steps old.receipts text ending short → HasEnded timeout lines new.steps new.receipts text ending short
-  ended_closed text ending short ended = let f = flushed_lists b appended moment old new closed in record { answered = ended.answered; are = answered_more timeout lines old.steps new.steps old.receipts new.receipts ended.answered f.0 f.1 ended.are; rest = ended.rest; is = ended.is; whole = ended.whole }
+  ended_closed text ending short ended = let f = flushed_lists b appended moment old new closed in record { answered = ended.answered; are = answered_more timeout lines old.steps new.steps old.receipts new.receipts ended.answered f.0 f.1 ended.are; rest = ended.rest; is = ended.is; whole = ended.whole; early = ended.early }
 
--- all lines were answered, and this text stands behind theirs
-pub replayed_ended : (timeout : ℕ) (lines : List Line) (steps : List Step) (receipts : List Receipted) (before after ending : List ℕ) (short : Bool) → HasReplayed timeout lines steps receipts before → after ≡ before ++ ending → HasEnded timeout lines steps receipts after ending short
-replayed_ended timeout lines steps receipts before after ending short replayed is = record {
-  answered = replayed.answered;
-  are = replayed.are;
-  rest = [];
-  is = append-nil after ∙ is ∙ ap (λ t. t ++ ending) replayed.is;
-  whole = inr refl;
-}
-
--- a status of a run that came so far has an ending of nothing, but for status 0
-pub none_ends : (status : Status) (faults : Faults) → (status ≡ s.DiskFault) ⊎ (status ≡ s.NoMemory) → IsEnding status faults []
-none_ends status faults (inl is) = subst (λ (x : Status). IsEnding x faults []) (sym is) (inl refl)
-none_ends status faults (inr is) = subst (λ (x : Status). IsEnding x faults []) (sym is) (inl refl)
+-- Nothing stands behind the lines of all.
+silent_ends : (status : Status) (Loaded : LoadState → Type 0) (faults : Faults) (lines : List Line) (answered : List Answered) → AreAll lines answered → (status ≡ s.DiskFault) ⊎ (status ≡ s.NoMemory) → IsEnding status Loaded faults lines answered []
+silent_ends status Loaded faults lines answered all (inl is) = subst (λ (x : Status). IsEnding x Loaded faults lines answered []) (sym is) (inl (refl, inr all))
+silent_ends status Loaded faults lines answered all (inr is) = subst (λ (x : Status). IsEnding x Loaded faults lines answered []) (sym is) (inl refl)
 
 pub refusal_status : (refusal : Refusal) → (status_of refusal ≡ s.DiskFault) ⊎ (status_of refusal ≡ s.NoMemory)
 refusal_status (r.Closed fault) = inr refl
@@ -79,40 +71,76 @@ IsNamed (r.Disk call) faults = faults.1 ≡ Some call
 IsNamed _ faults = Unit {0}
 
 -- a replay that was refused
-pub refused_text : (timeout : ℕ) (status : Status) (lines : List Line) (faults : Faults) (steps : List Step) (receipts : List Receipted) (text : List ℕ) (refusal : Refusal) → IsLast refusal → status ≡ status_of refusal → IsNamed refusal faults
-    → HasEnded timeout lines steps receipts text (refusal_line refusal) (is_for_memory refusal) → HasText timeout status lines faults steps receipts text
-refused_text timeout status lines faults steps receipts text (r.Disk call) last is named ended = subst (λ (x : Status). HasText timeout x lines faults steps receipts text) (sym is) (record { ending = refusal_line (r.Disk call); ends = inr (call, named, refl); ended = ended })
-refused_text timeout status lines faults steps receipts text r.NoMemory last is named ended = subst (λ (x : Status). HasText timeout x lines faults steps receipts text) (sym is) (record { ending = []; ends = inl refl; ended = ended })
-refused_text timeout status lines faults steps receipts text (r.Closed fault) last is named ended = absurd last
-refused_text timeout status lines faults steps receipts text (r.TooLarge len limit) last is named ended = absurd last
-refused_text timeout status lines faults steps receipts text (r.NoTx tx) last is named ended = absurd last
-refused_text timeout status lines faults steps receipts text (r.TxPrepared tx) last is named ended = absurd last
-refused_text timeout status lines faults steps receipts text (r.Held id tx) last is named ended = absurd last
-refused_text timeout status lines faults steps receipts text (r.AlreadyLive id) last is named ended = absurd last
-refused_text timeout status lines faults steps receipts text (r.NoRecord id) last is named ended = absurd last
-refused_text timeout status lines faults steps receipts text (r.TxNumbersSpent highest) last is named ended = absurd last
-refused_text timeout status lines faults steps receipts text (r.Compacting phase) last is named ended = absurd last
-refused_text timeout status lines faults steps receipts text (r.FileIdsSpent highest) last is named ended = absurd last
-refused_text timeout status lines faults steps receipts text (r.FileFull len left) last is named ended = absurd last
+pub refused_text : (timeout : ℕ) (status : Status) (Loaded : LoadState → Type 0) (lines : List Line) (faults : Faults) (steps : List Step) (receipts : List Receipted) (text : List ℕ) (refusal : Refusal) → IsLast refusal → status ≡ status_of refusal → IsNamed refusal faults
+    → HasEnded timeout lines steps receipts text (refusal_line refusal) (is_for_memory refusal) → HasText timeout status Loaded lines faults steps receipts text
+refused_text timeout status Loaded lines faults steps receipts text (r.Disk call) last is named ended = subst (λ (x : Status). HasText timeout x Loaded lines faults steps receipts text) (sym is) (record {
+  answered = ended.answered;
+  are = ended.are;
+  ending = refusal_line (r.Disk call);
+  ends = inr (early ended.early, (call, named, refl));
+  rest = ended.rest;
+  is = ended.is;
+  whole = ended.whole;
+}) where
+  early : (false ≡ true) ⊎ (length ended.answered < length lines) → length ended.answered < length lines
+  early (inl e) = absurd cc
+  early (inr lt) = lt
+refused_text timeout status Loaded lines faults steps receipts text r.NoMemory last is named ended = subst (λ (x : Status). HasText timeout x Loaded lines faults steps receipts text) (sym is) (record {
+  answered = ended.answered;
+  are = ended.are;
+  ending = [];
+  ends = inl refl;
+  rest = ended.rest;
+  is = ended.is;
+  whole = inl refl;
+})
+refused_text timeout status Loaded lines faults steps receipts text (r.Closed fault) last is named ended = absurd last
+refused_text timeout status Loaded lines faults steps receipts text (r.TooLarge len limit) last is named ended = absurd last
+refused_text timeout status Loaded lines faults steps receipts text (r.NoTx tx) last is named ended = absurd last
+refused_text timeout status Loaded lines faults steps receipts text (r.TxPrepared tx) last is named ended = absurd last
+refused_text timeout status Loaded lines faults steps receipts text (r.Held id tx) last is named ended = absurd last
+refused_text timeout status Loaded lines faults steps receipts text (r.AlreadyLive id) last is named ended = absurd last
+refused_text timeout status Loaded lines faults steps receipts text (r.NoRecord id) last is named ended = absurd last
+refused_text timeout status Loaded lines faults steps receipts text (r.TxNumbersSpent highest) last is named ended = absurd last
+refused_text timeout status Loaded lines faults steps receipts text (r.Compacting phase) last is named ended = absurd last
+refused_text timeout status Loaded lines faults steps receipts text (r.FileIdsSpent highest) last is named ended = absurd last
+refused_text timeout status Loaded lines faults steps receipts text (r.FileFull len left) last is named ended = absurd last
 
 -- all lines were answered, and nothing stands behind theirs
-pub unreported_text : (timeout : ℕ) (status : Status) (lines : List Line) (faults : Faults) (steps : List Step) (receipts : List Receipted) (before after : List ℕ) → HasReplayed timeout lines steps receipts before → after ≡ before → (status ≡ s.DiskFault) ⊎ (status ≡ s.NoMemory) → HasText timeout status lines faults steps receipts after
-unreported_text timeout status lines faults steps receipts before after replayed same which = record { ending = []; ends = none_ends status faults which; ended = replayed_ended timeout lines steps receipts before after [] (is_short status) replayed (same ∙ sym (append-nil before)) }
+pub unreported_text : (timeout : ℕ) (status : Status) (Loaded : LoadState → Type 0) (lines : List Line) (faults : Faults) (steps : List Step) (receipts : List Receipted) (before after : List ℕ) → HasReplayed timeout lines steps receipts before → after ≡ before → (status ≡ s.DiskFault) ⊎ (status ≡ s.NoMemory)
+    → HasText timeout status Loaded lines faults steps receipts after
+unreported_text timeout status Loaded lines faults steps receipts before after replayed same which = record {
+  answered = replayed.answered;
+  are = replayed.are;
+  ending = [];
+  ends = silent_ends status Loaded faults lines replayed.answered replayed.all which;
+  rest = [];
+  is = append-nil after ∙ same ∙ replayed.is ∙ sym (append-nil (reply_lines replayed.answered));
+  whole = inr refl;
+}
 
 -- the text of a run whose journal was closed
-pub reported_text : (timeout : ℕ) (status : Status) (lines : List Line) (faults was now : Faults) (steps : List Step) (receipts : List Receipted) (before after : List ℕ) (old new : Option Past) → HasReplayed timeout lines steps receipts before → (status ≡ s.Ok → IsReported before after old new) → (status ≡ s.Ok) ⊎ (after ≡ before) → HasDiskCause status was now
-    → HasText timeout status lines faults steps receipts after
-reported_text timeout s.Ok lines faults was now steps receipts before after old new replayed reported unreported cause =
-    let rep = reported refl in
-    record { ending = report_of rep.state; ends = (rep.state, refl); ended = replayed_ended timeout lines steps receipts before after (report_of rep.state) false replayed rep.lines }
-reported_text timeout s.DiskFault lines faults was now steps receipts before after old new replayed reported (inl ok) cause = absurd (let e : s.DiskFault ≡ s.Ok = ok in cc)
-reported_text timeout s.DiskFault lines faults was now steps receipts before after old new replayed reported (inr same) cause = unreported_text timeout s.DiskFault lines faults steps receipts before after replayed same (inl refl)
-reported_text timeout s.NoMemory lines faults was now steps receipts before after old new replayed reported (inl ok) cause = absurd (let e : s.NoMemory ≡ s.Ok = ok in cc)
-reported_text timeout s.NoMemory lines faults was now steps receipts before after old new replayed reported (inr same) cause = unreported_text timeout s.NoMemory lines faults steps receipts before after replayed same (inr refl)
-reported_text timeout s.SourceFault lines faults was now steps receipts before after old new replayed reported unreported cause = absurd cause
-reported_text timeout s.SinkFault lines faults was now steps receipts before after old new replayed reported unreported cause = absurd cause
-reported_text timeout (s.InputTooLong limit) lines faults was now steps receipts before after old new replayed reported unreported cause = absurd cause
-reported_text timeout (s.NotBuilt part) lines faults was now steps receipts before after old new replayed reported unreported cause = absurd cause
+pub reported_text : (config : Config) (status : Status) (lines : List Line) (faults was now : Faults) (base : List Placed) (steps : List Step) (receipts : List Receipted) (before after : List ℕ) (past : Option Past) → HasReplayed config.buffer_timeout lines steps receipts before → (status ≡ s.Ok → HasRunOn config lines after past base steps receipts)
+    → (status ≡ s.Ok) ⊎ (after ≡ before) → HasDiskCause status was now → HasText config.buffer_timeout status (IsLoadedState past config.user_version base steps) lines faults steps receipts after
+reported_text config s.Ok lines faults was now base steps receipts before after past replayed ran unreported cause =
+    let r = ran refl in
+    record {
+      answered = r.replayed.answered;
+      are = r.replayed.are;
+      ending = report_of r.state;
+      ends = (r.replayed.all, (r.state, r.loaded, refl));
+      rest = [];
+      is = append-nil after ∙ r.reported ∙ ap (λ t. t ++ report_of r.state) r.replayed.is;
+      whole = inr refl;
+    }
+reported_text config s.DiskFault lines faults was now base steps receipts before after past replayed ran (inl ok) cause = absurd (let e : s.DiskFault ≡ s.Ok = ok in cc)
+reported_text config s.DiskFault lines faults was now base steps receipts before after past replayed ran (inr same) cause = unreported_text config.buffer_timeout s.DiskFault (IsLoadedState past config.user_version base steps) lines faults steps receipts before after replayed same (inl refl)
+reported_text config s.NoMemory lines faults was now base steps receipts before after past replayed ran (inl ok) cause = absurd (let e : s.NoMemory ≡ s.Ok = ok in cc)
+reported_text config s.NoMemory lines faults was now base steps receipts before after past replayed ran (inr same) cause = unreported_text config.buffer_timeout s.NoMemory (IsLoadedState past config.user_version base steps) lines faults steps receipts before after replayed same (inr refl)
+reported_text config s.SourceFault lines faults was now base steps receipts before after past replayed ran unreported cause = absurd cause
+reported_text config s.SinkFault lines faults was now base steps receipts before after past replayed ran unreported cause = absurd cause
+reported_text config (s.InputTooLong limit) lines faults was now base steps receipts before after past replayed ran unreported cause = absurd cause
+reported_text config (s.NotBuilt part) lines faults was now base steps receipts before after past replayed ran unreported cause = absurd cause
 
 -- a refusal for a disk call names the one that failed last, also behind a closing that makes no call
 pub named_refusal : (T : Type 0) (refusal : Refusal) (was now later : Faults) (closed : Option DiskCall) → HasCause {T = T} (Err refusal) was now → IsClosedBy refusal closed → (IsSome closed → later ≡ now) → IsNamed refusal later
@@ -136,22 +164,18 @@ none_answered : (timeout : ℕ) (lines : List Line) (steps : List Step) (receipt
 none_answered timeout lines steps receipts none = subst (λ ss. AreAnswered timeout lines ss receipts []) (sym none) (record { front = refl; commands = refl; numbered = tt; receipted = λ k d lt. absurd (omega (arith, lt)); answers = tt })
 
 -- where the journal wasn't opened
-pub unopened_text : (timeout : ℕ) (status : Status) (lines : List Line) (faults : Faults) (steps : List Step) (receipts : List Receipted) (text : List ℕ) → steps ≡ [] → text ≡ [] → IsEnding status faults [] → HasText timeout status lines faults steps receipts text
-unopened_text timeout status lines faults steps receipts text none empty ends = record {
-  ending = [];
-  ends = ends;
-  ended = record { answered = []; are = none_answered timeout lines steps receipts none; rest = []; is = append-nil text ∙ empty; whole = inr refl };
-}
+pub unopened_text : (timeout : ℕ) (status : Status) (Loaded : LoadState → Type 0) (lines : List Line) (faults : Faults) (steps : List Step) (receipts : List Receipted) (text : List ℕ) → steps ≡ [] → text ≡ [] → IsEnding status Loaded faults lines [] [] → HasText timeout status Loaded lines faults steps receipts text
+unopened_text timeout status Loaded lines faults steps receipts text none empty ends = record { answered = []; are = none_answered timeout lines steps receipts none; ending = []; ends = ends; rest = []; is = append-nil text ∙ empty; whole = inr refl }
 
-pub opening_ends : (fault : OpenFault) (faults : Faults) → IsEnding (status_of_opening fault) faults []
-opening_ends (o.Disk call) faults = inl refl
-opening_ends o.NoMemory faults = inl refl
-opening_ends (o.Directory fault) faults = refl
-opening_ends (o.FileIdsSpent highest) faults = refl
-opening_ends o.NotBuilt faults = refl
+pub opening_ends : (fault : OpenFault) (Loaded : LoadState → Type 0) (faults : Faults) (lines : List Line) → IsEnding (status_of_opening fault) Loaded faults lines [] []
+opening_ends (o.Disk call) Loaded faults lines = inl (refl, inl refl)
+opening_ends o.NoMemory Loaded faults lines = inl refl
+opening_ends (o.Directory fault) Loaded faults lines = (refl, refl)
+opening_ends (o.FileIdsSpent highest) Loaded faults lines = (refl, refl)
+opening_ends o.NotBuilt Loaded faults lines = (refl, refl)
 
 -- of an engine that was just opened
-pub begun_played : {D : Type 0} (timeout : ℕ) (e : EngineOf D Kept) (text : List ℕ) (moment : ℕ) → e.appended ≡ 0 → e.durable ≡ 0 → e.since ≡ None → e.clock ≡ 0 → AreBegun moment (lists_of e.chronicle) → text ≡ [] → HasPlayed timeout [] 1 e text
+pub begun_played : {D : Type 0} (timeout : ℕ) (e : EngineOf D Kept) (text : List ℕ) (moment : ℕ) → e.appended ≡ 0 → e.durable ≡ 0 → e.since ≡ None → e.clock ≡ 0 → AreBegun moment (lists_of e.chronicle) → text ≡ [] → HasPlayed timeout [] (λ label. 0) 1 e text
 begun_played timeout e text moment appended durable since clock begun empty = record {
   answered = [];
   lines = refl;
@@ -170,5 +194,6 @@ begun_played timeout e text moment appended durable since clock begun empty = re
     steps = subst (λ ss. AreSteps [] ss 1) (sym begun.steps) (record { commands = refl; numbered = tt; next = refl });
     answers = tt;
   };
+  labelled = λ label. refl;
   is = empty;
 }

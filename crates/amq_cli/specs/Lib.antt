@@ -4,6 +4,8 @@ pub mod Input
 pub mod Output
 pub mod Replay
 pub mod Playing
+pub mod Labelled
+pub mod Outcomes
 pub mod Script
 pub mod Loaded
 pub mod Offline

@@ -1,5 +1,5 @@
 -- What the program's commands leave.
-use Rattle.std.specs.Prelude.{◌≡◌, ◌⊎◌, ℕ, ◌<◌, Bool, true, false, List, [], ◌++◌, length, Option, None, Some, option_map, IfSome}
+use Rattle.std.specs.Prelude.{◌≡◌, ◌⊎◌, ℕ, ◌<◌, ◌≤◌, Bool, true, false, List, [], ◌++◌, length, Option, None, Some, option_map, IfSome}
 use Rattle.std.specs.FinMap as finite
 use Rattle.amq_model.specs.declared.script.Line.{Line}
 use Rattle.amq_model.specs.declared.config.Config.{Config}
@@ -26,7 +26,7 @@ use Rattle.amq_cli.specs.declared.status.Status.TheVariants as s
 use Rattle.amq_cli.specs.declared.status.Unbuilt.TheVariants as u
 use Rattle.amq_cli.specs.Loaded.{IsLoaded, content_of}
 use Rattle.amq_cli.specs.Output.{IsPartWritten}
-use Rattle.amq_cli.specs.Replay.{HasReplayed, HasEnded, script_lines}
+use Rattle.amq_cli.specs.Replay.{Answered, AreAnswered, HasReplayed, reply_lines, script_lines}
 use Rattle.amq_cli.specs.Script.{IsSaid, input_limit}
 
 -- the configuration of a broker that sets nothing
@@ -52,6 +52,10 @@ pub record LoadsTo (user_version : ℕ) (base : List Placed) (steps : List Step)
   pub reading : IsReading s image
   pub loads : Loads (finite.entries image) user_version state
   pub is : state ≡ result_of (base ++ history_of steps)
+
+-- the directory, where it is told, loads to this state
+abbrev pub IsLoadedState : Option Past → ℕ → List Placed → List Step → LoadState → Type 0
+IsLoadedState past user_version base steps state = Told past (LoadsTo user_version base steps state)
 
 -- ---- a run of lines on a disk
 
@@ -88,32 +92,40 @@ abbrev pub HasRunCause : Status → Option Past → Option Past → Faults → F
 HasRunCause (s.NotBuilt u.Directory) old new was now = (content_of new ≡ content_of old) × Told old (λ s. IsEmpty s → ⊥)
 HasRunCause status old new was now = HasDiskCause status was now
 
--- it is a report
-abbrev pub IsReport : List ℕ → Type 0
-IsReport ending = (state : LoadState) × (ending ≡ report_of state)
+-- all lines were answered
+abbrev pub AreAll : List Line → List Answered → Type 0
+AreAll lines answered = length answered ≡ length lines
 
--- it is the line of the disk call that failed last
-abbrev pub IsDiskLine : Faults → List ℕ → Type 0
-IsDiskLine faults ending = (call : DiskCall) × (faults.1 ≡ Some call) × (ending ≡ refusal_line (r.Disk call))
+-- all lines were answered, and this is the report of what the directory loads to
+abbrev pub IsReport : (LoadState → Type 0) → List Line → List Answered → List ℕ → Type 0
+IsReport Loaded lines answered ending = AreAll lines answered × ((state : LoadState) × Loaded state × (ending ≡ report_of state))
 
--- what stands behind the lines of what was answered: a report, the line of a disk call that failed, or nothing
-abbrev pub IsEnding : Status → Faults → List ℕ → Type 0
-IsEnding s.Ok faults ending = IsReport ending
-IsEnding s.SinkFault faults ending = IsReport ending
-IsEnding s.DiskFault faults ending = (ending ≡ []) ⊎ IsDiskLine faults ending
-IsEnding s.NoMemory faults ending = (ending ≡ []) ⊎ IsDiskLine faults ending ⊎ IsReport ending
-IsEnding _ faults ending = ending ≡ []
+-- a line of the script wasn't answered, and this is the line of the disk call that failed last
+abbrev pub IsDiskLine : Faults → List Line → List Answered → List ℕ → Type 0
+IsDiskLine faults lines answered ending = (length answered < length lines) × ((call : DiskCall) × (faults.1 ≡ Some call) × (ending ≡ refusal_line (r.Disk call)))
+
+-- What stands behind the lines of what was answered: the report, the line of a disk call that failed, or nothing. With a disk fault nothing stands there only where the opening was refused, or where all lines were answered.
+abbrev pub IsEnding : Status → (LoadState → Type 0) → Faults → List Line → List Answered → List ℕ → Type 0
+IsEnding s.Ok Loaded faults lines answered ending = IsReport Loaded lines answered ending
+IsEnding s.SinkFault Loaded faults lines answered ending = IsReport Loaded lines answered ending
+IsEnding s.DiskFault Loaded faults lines answered ending = ((ending ≡ []) × ((answered ≡ []) ⊎ AreAll lines answered)) ⊎ IsDiskLine faults lines answered ending
+IsEnding s.NoMemory Loaded faults lines answered ending = (ending ≡ []) ⊎ IsDiskLine faults lines answered ending ⊎ IsReport Loaded lines answered ending
+IsEnding _ Loaded faults lines answered ending = (ending ≡ []) × (answered ≡ [])
 
 -- memory was short
 abbrev pub is_short : Status → Bool
 is_short s.NoMemory = true
 is_short _ = false
 
--- the text of a run with this status, however it ended
-pub record HasText (timeout : ℕ) (status : Status) (lines : List Line) (faults : Faults) (steps : List Step) (receipts : List Receipted) (text : List ℕ) : Type 0 where
+-- The text of a run with this status, however it ended: a front of the lines of what was answered and then of an ending, and the whole of them unless memory was short.
+pub record HasText (timeout : ℕ) (status : Status) (Loaded : LoadState → Type 0) (lines : List Line) (faults : Faults) (steps : List Step) (receipts : List Receipted) (text : List ℕ) : Type 0 where
+  pub answered : List Answered
+  pub are : AreAnswered timeout lines steps receipts answered
   pub ending : List ℕ
-  pub ends : IsEnding status faults ending
-  pub ended : HasEnded timeout lines steps receipts text ending (is_short status)
+  pub ends : IsEnding status Loaded faults lines answered ending
+  pub rest : List ℕ
+  pub is : text ++ rest ≡ reply_lines answered ++ ending
+  pub whole : (is_short status ≡ true) ⊎ (rest ≡ [])
 
 -- ---- the whole run
 
@@ -133,12 +145,20 @@ pub record IsRun (Writes : List ℕ → Option (List ℕ) → Option (List ℕ) 
   pub ran : HasRun config lines text past_old past_new base steps receipts
   pub written : Writes text taken_old taken_new
 
--- What was written, with every status: a front of the text of a run of the source's lines, and all of it unless the sink failed or memory was short. Where the script wasn't read there is no line.
-pub record IsOutput (timeout : ℕ) (status : Status) (left_old left_new : Option (List ℕ)) (faults : Faults) (sink_old sink_new : ℕ) (taken_old taken_new : Option (List ℕ)) (steps : List Step) (receipts : List Receipted) : Type 0 where
+-- the script was read
+abbrev pub is_past_script : Status → Bool
+is_past_script s.Ok = true
+is_past_script s.SinkFault = true
+is_past_script s.DiskFault = true
+is_past_script (s.NotBuilt u.Directory) = true
+is_past_script _ = false
+
+-- What was written, with every status: a front of the text of a run of the source's lines, and all of it unless the sink failed or memory was short. Where the script wasn't read there is no line and no text.
+pub record IsOutput (timeout : ℕ) (status : Status) (Loaded : LoadState → Type 0) (left_old left_new : Option (List ℕ)) (faults : Faults) (sink_old sink_new : ℕ) (taken_old taken_new : Option (List ℕ)) (steps : List Step) (receipts : List Receipted) : Type 0 where
   pub lines : List Line
-  pub said : (lines ≡ []) ⊎ IsSaid lines left_old left_new
   pub text : List ℕ
-  pub has : HasText timeout status lines faults steps receipts text
+  pub said : ((is_past_script status ≡ false) × (lines ≡ []) × (text ≡ [])) ⊎ IsSaid lines left_old left_new
+  pub has : HasText timeout status Loaded lines faults steps receipts text
   pub part : IsPartWritten text taken_old taken_new
   pub whole : IsWritten text taken_old taken_new ⊎ Rose sink_old sink_new ⊎ (is_short status ≡ true)
 
@@ -151,7 +171,7 @@ HasCause s.DiskFault left old new source source' sink sink' disk disk' = Rose di
 HasCause s.NoMemory left old new source source' sink sink' disk disk' = Unit {0}
 HasCause (s.InputTooLong limit) left old new source source' sink sink' disk disk' = (limit ≡ input_limit) × IfSome left (λ bytes. input_limit < length bytes)
 HasCause (s.NotBuilt u.Words) left old new source source' sink sink' disk disk' = Unit {0}
-HasCause (s.NotBuilt u.Script) left old new source source' sink sink' disk disk' = IfSome left (λ bytes. script_lines bytes ≡ None)
+HasCause (s.NotBuilt u.Script) left old new source source' sink sink' disk disk' = IfSome left (λ bytes. (length bytes ≤ input_limit) × (script_lines bytes ≡ None))
 HasCause (s.NotBuilt u.Directory) left old new source source' sink sink' disk disk' = (content_of new ≡ content_of old) × Told old (λ s. IsEmpty s → ⊥)
 
 -- no call of the disk was made
@@ -161,14 +181,6 @@ is_before_opening (s.InputTooLong limit) = true
 is_before_opening (s.NotBuilt u.Words) = true
 is_before_opening (s.NotBuilt u.Script) = true
 is_before_opening _ = false
-
--- the script was read
-abbrev pub is_past_script : Status → Bool
-is_past_script s.Ok = true
-is_past_script s.SinkFault = true
-is_past_script s.DiskFault = true
-is_past_script (s.NotBuilt u.Directory) = true
-is_past_script _ = false
 
 -- nothing was written
 abbrev pub is_unwritten : Status → Bool

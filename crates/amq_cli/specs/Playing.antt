@@ -6,7 +6,7 @@ use Rattle.amq_model.specs.declared.history.Step.{Step}
 use Rattle.amq_engine.specs.declared.chronicle.Kept.{Kept}
 use Rattle.amq_engine.specs.declared.chronicle.Receipted.{Receipted}
 use Rattle.amq_engine.specs.Engine.{EngineOf}
-use Rattle.amq_cli.specs.Replay.{Answered, commanded, placed_at, counted, clock_of, reply_lines, AreLineAnswers, AreNumbered, IsReceipted}
+use Rattle.amq_cli.specs.Replay.{Answered, all_commanded, label_number, placed_at, counted, clock_of, reply_lines, AreLineAnswers, AreNumbered, IsReceipted}
 
 -- The numbers of the engine behind these lines: its clock, how many appends there were and how many are durable, and since when the first of the others waits.
 pub record AreNumbers (answered : List Answered) (receipts : List Receipted) (clock appended durable : ℕ) (since : Option ℕ) : Type 0 where
@@ -22,7 +22,7 @@ pub record AreNumbers (answered : List Answered) (receipts : List Receipted) (cl
 
 -- The steps are those of these lines, and this is the number of the next one.
 pub record AreSteps (answered : List Answered) (steps : List Step) (number : ℕ) : Type 0 where
-  pub commands : map (λ s. (s.command, s.answer)) steps ≡ filter_map commanded answered
+  pub commands : map (λ s. (s.command, s.answer)) steps ≡ all_commanded [] answered
   pub numbered : AreNumbered 1 steps
   pub next : number ≡ length steps + 1
 
@@ -32,9 +32,14 @@ pub record IsPlaying {D : Type 0} (timeout : ℕ) (answered : List Answered) (nu
   pub steps : AreSteps answered e.chronicle.steps.items number
   pub answers : AreLineAnswers timeout [] answered
 
+-- each label stands for this number behind these lines
+abbrev pub AreNumbersOf : (List ℕ → ℕ) → List Answered → Type 0
+AreNumbersOf numbers answered = (label : List ℕ) → numbers label ≡ label_number answered label
+
 -- so far these lines were answered, and the text has their lines
-pub record HasPlayed {D : Type 0} (timeout : ℕ) (done : List Line) (number : ℕ) (e : EngineOf D Kept) (text : List ℕ) : Type 0 where
+pub record HasPlayed {D : Type 0} (timeout : ℕ) (done : List Line) (labels : List ℕ → ℕ) (number : ℕ) (e : EngineOf D Kept) (text : List ℕ) : Type 0 where
   pub answered : List Answered
   pub lines : map (λ x. x.0) answered ≡ done
   pub playing : IsPlaying timeout answered number e
+  pub labelled : AreNumbersOf labels answered
   pub is : text ≡ reply_lines answered

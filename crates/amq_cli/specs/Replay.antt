@@ -1,9 +1,9 @@
 -- What a replay does with the lines of a script.
-use Rattle.std.specs.Prelude.{◌≡◌, ◌⊎◌, ℕ, ◌+◌, ◌-◌, ◌<◌, ◌≤◌, max, Bool, true, false, ◌==◌, if◌then◌else◌, List, [], ◌∷◌, ◌++◌, length, take, map, fold, Option, None, Some, Ok, Err, IsTrue, All}
-use Rattle.std.specs.List.{filter_map, flat_map, list_all, list_any}
+use Rattle.std.specs.Prelude.{◌≡◌, ◌⊎◌, ℕ, ◌+◌, ◌-◌, ◌<◌, ◌≤◌, max, Bool, true, false, ◌==◌, if◌then◌else◌, List, [], ◌∷◌, ◌++◌, length, take, map, fold, Option, None, Some, option_map, Ok, Err, IsTrue, All}
+use Rattle.std.specs.List.{cons_option, filter_map, flat_map, list_all, list_any}
 use Rattle.amq_model.specs.declared.command.Command.{Command}
 use Rattle.amq_model.specs.declared.command.Command.TheVariants as c
-use Rattle.amq_model.specs.declared.command.Reply.TheVariants.{Appended, Durable}
+use Rattle.amq_model.specs.declared.command.Reply.TheVariants.{Appended, Begun, Durable}
 use Rattle.amq_model.specs.declared.script.Line.{Line}
 use Rattle.amq_model.specs.declared.script.Line.TheVariants as l
 use Rattle.amq_model.specs.declared.script.Mode.TheVariants as m
@@ -14,19 +14,18 @@ use Rattle.amq_model.specs.declared.refusal.DiskCall.{DiskCall}
 use Rattle.amq_model.specs.declared.refusal.Refusal.{Refusal}
 use Rattle.amq_model.specs.declared.refusal.Refusal.TheVariants as r
 use Rattle.amq_model.specs.Script.{script_of}
-use Rattle.amq_model.specs.Texts.{reply_line, refusal_line}
+use Rattle.amq_model.specs.Texts.{reply_line, bound_line}
+use Rattle.amq_model.specs.Names.{same}
 use Rattle.amq_engine.specs.declared.chronicle.Receipted.{Receipted}
 
 -- ---- the script
 
--- a line that a replay takes today: a command of no transaction, or a tick
+-- a line that a replay takes today: all but those of giving up files and of compaction
 abbrev pub is_built : Line → Bool
-is_built (l.Plain (c.Add id user_type body)) = true
-is_built (l.Plain (c.Update id user_type body)) = true
-is_built (l.Plain (c.Delete id)) = true
-is_built (l.Plain c.Flush) = true
-is_built (l.Tick now) = true
-is_built _ = false
+is_built l.Reclaim = false
+is_built l.Compact = false
+is_built (l.Step steps) = false
+is_built _ = true
 
 -- the lines of the one producer, if a replay takes each of them
 abbrev pub built_lines : List (List Line) → Option (List Line)
@@ -39,21 +38,64 @@ script_lines bytes = elim (script_of m.Replay bytes) [ Ok producers ↦ built_li
 
 -- ---- what lines were answered
 
--- a line that was answered, with its answer
+-- a line that was answered, with its answer; a bind has none
 abbrev pub Answered : Type 0
-Answered = Line × Answer
+Answered = Line × Option Answer
 
--- the command of a line, with its answer
-abbrev pub commanded : Answered → Option (Command × Answer)
-commanded x = elim x.0 [ l.Plain command ↦ Some (command, x.1) | _ ↦ None ]
+-- the number that a begin was given, 0 where it was refused
+abbrev pub begun_number : Option Answer → ℕ
+begun_number None = 0
+begun_number (Some answer) = elim answer [ Done reply ↦ elim reply [ Begun tx ↦ tx | _ ↦ 0 ] | Refused refusal ↦ 0 ]
+
+-- it begins a transaction
+abbrev pub is_begin : Command → Bool
+is_begin c.Begin = true
+is_begin _ = false
+
+-- the number that a label stands for behind one more line
+abbrev pub number_behind : List ℕ → ℕ → Answered → ℕ
+number_behind label before x = elim x.0 [
+  | l.Labelled name command ↦ elim command [ c.Begin ↦ (if same name label then begun_number x.1 else before) | _ ↦ before ]
+  | l.Bind name tx ↦ (if same name label then tx else before)
+  | _ ↦ before
+]
+
+-- the number that a label stands for: that of its last begin or bind
+abbrev pub label_number : List Answered → List ℕ → ℕ
+label_number answered label = fold (number_behind label) 0 answered
+
+-- the command with the number of its transaction
+abbrev pub with_number : ℕ → Command → Command
+with_number n (c.AddTx tx id user_type body) = c.AddTx n id user_type body
+with_number n (c.UpdateTx tx id user_type body) = c.UpdateTx n id user_type body
+with_number n (c.DeleteTx tx id body) = c.DeleteTx n id body
+with_number n (c.Prepare tx extra) = c.Prepare n extra
+with_number n (c.Commit tx) = c.Commit n
+with_number n (c.Rollback tx) = c.Rollback n
+with_number n command = command
+
+-- the command of a line behind these, its label replaced by the number that it stands for
+abbrev pub sent : List Answered → Line → Option Command
+sent before (l.Plain command) = Some command
+sent before (l.Labelled label command) = Some (with_number (label_number before label) command)
+sent before _ = None
+
+-- the command of a line behind others, with its answer
+abbrev pub commanded : List Answered → Answered → Option (Command × Answer)
+commanded before x = elim (sent before x.0) [ None ↦ None | Some command ↦ option_map (λ answer. (command, answer)) x.1 ]
+
+-- the commands of these lines behind others, with their answers
+abbrev pub all_commanded : List Answered → List Answered → List (Command × Answer)
+all_commanded before [] = []
+all_commanded before (x ∷ xs) = cons_option (commanded before x) (all_commanded (before ++ x ∷ []) xs)
 
 -- the place of a line's append
 abbrev pub placed_at : Answered → Option ℕ
-placed_at x = elim x.1 [ Done reply ↦ elim reply [ Appended place ↦ Some place | _ ↦ None ] | Refused refusal ↦ None ]
+placed_at x = elim x.1 [ None ↦ None | Some answer ↦ elim answer [ Done reply ↦ elim reply [ Appended place ↦ Some place | _ ↦ None ] | Refused refusal ↦ None ] ]
 
 -- the count of durable appends that a line was answered
 abbrev pub counted : Answered → Option ℕ
-counted x = elim x.1 [ Done reply ↦ elim reply [ Durable count ↦ Some count | _ ↦ None ] | Refused refusal ↦ None ]
+counted x = elim x.1 [ None ↦ None | Some answer ↦ elim answer [ Done reply ↦ elim reply [ Durable count ↦ Some count | _ ↦ None ] | Refused refusal ↦ None ] ]
 
 -- the moment of a tick
 abbrev pub ticked : Answered → Option ℕ
@@ -63,9 +105,13 @@ ticked x = elim x.0 [ l.Tick now ↦ Some now | _ ↦ None ]
 abbrev pub clock_of : List Answered → ℕ
 clock_of answered = fold max 0 (filter_map ticked answered)
 
+-- the line of text of a line of the script
+abbrev pub line_of : Answered → List ℕ
+line_of x = elim x.1 [ Some answer ↦ reply_line answer | None ↦ elim x.0 [ l.Bind label tx ↦ bound_line tx | _ ↦ [] ] ]
+
 -- one line of text a line of the script
 abbrev pub reply_lines : List Answered → List ℕ
-reply_lines answered = flat_map (λ x. reply_line x.1) answered
+reply_lines answered = flat_map line_of answered
 
 -- A tick is answered so behind these lines: by at most the appends so far, by no fewer than any line before it, and by all but those that were appended less than the timeout ago.
 pub record IsTicked (timeout : ℕ) (before : List Answered) (now count : ℕ) : Type 0 where
@@ -78,10 +124,13 @@ abbrev pub IsTickAnswer : ℕ → List Answered → ℕ → Answer → Type 0
 IsTickAnswer timeout before now (Done (Durable count)) = IsTicked timeout before now count
 IsTickAnswer timeout before now _ = ⊥
 
--- the answer of a line behind others; that of a command is its step's
-abbrev pub IsLineAnswer : ℕ → List Answered → Line → Answer → Type 0
-IsLineAnswer timeout before (l.Tick now) answer = IsTickAnswer timeout before now answer
-IsLineAnswer timeout before _ answer = Unit {0}
+-- the answer of a line behind others: that of a command is its step's, a bind has none, and a tick is answered as it may be
+abbrev pub IsLineAnswer : ℕ → List Answered → Line → Option Answer → Type 0
+IsLineAnswer timeout before (l.Tick now) (Some answer) = IsTickAnswer timeout before now answer
+IsLineAnswer timeout before (l.Bind label tx) None = Unit {0}
+IsLineAnswer timeout before (l.Plain command) (Some answer) = Unit {0}
+IsLineAnswer timeout before (l.Labelled label command) (Some answer) = Unit {0}
+IsLineAnswer timeout before _ _ = ⊥
 
 -- each line behind those before it
 abbrev pub AreLineAnswers : ℕ → List Answered → List Answered → Type 0
@@ -100,7 +149,7 @@ IsReceipted receipts count = IsTrue (list_any (λ r. r.durable == count) receipt
 -- These lines were answered, the first ones of a script: the steps are those of their commands, in order, each once, with their answers; each count is that of a receipt; and each tick is answered as it may be.
 pub record AreAnswered (timeout : ℕ) (lines : List Line) (steps : List Step) (receipts : List Receipted) (answered : List Answered) : Type 0 where
   pub front : map (λ x. x.0) answered ≡ take (length answered) lines
-  pub commands : map (λ s. (s.command, s.answer)) steps ≡ filter_map commanded answered
+  pub commands : map (λ s. (s.command, s.answer)) steps ≡ all_commanded [] answered
   pub numbered : AreNumbered 1 steps
   pub receipted : All (IsReceipted receipts) (filter_map counted answered)
   pub answers : AreLineAnswers timeout [] answered
@@ -118,13 +167,14 @@ abbrev pub IsClosedBy : Refusal → Option DiskCall → Type 0
 IsClosedBy (r.Disk call) closed = closed ≡ Some call
 IsClosedBy _ closed = Unit {0}
 
--- The text is a front of the lines of what was answered and then of this ending, and the whole of them unless memory was short.
+-- The text is a front of the lines of what was answered and then of this ending. Unless memory was short it is the whole of them, and a line wasn't answered.
 pub record HasEnded (timeout : ℕ) (lines : List Line) (steps : List Step) (receipts : List Receipted) (text ending : List ℕ) (short : Bool) : Type 0 where
   pub answered : List Answered
   pub are : AreAnswered timeout lines steps receipts answered
   pub rest : List ℕ
   pub is : text ++ rest ≡ reply_lines answered ++ ending
   pub whole : (short ≡ true) ⊎ (rest ≡ [])
+  pub early : (short ≡ true) ⊎ (length answered < length lines)
 
 -- all lines were answered, and the text has their lines
 pub record HasReplayed (timeout : ℕ) (lines : List Line) (steps : List Step) (receipts : List Receipted) (text : List ℕ) : Type 0 where

@@ -31,5 +31,5 @@ abbrev pub HasReadCause : Status → Option (List ℕ) → ℕ → ℕ → Type 
 HasReadCause s.SourceFault left old new = Rose old new
 HasReadCause s.NoMemory left old new = Unit {0}
 HasReadCause (s.InputTooLong limit) left old new = (limit ≡ input_limit) × IfSome left (λ bytes. input_limit < length bytes)
-HasReadCause (s.NotBuilt u.Script) left old new = IfSome left (λ bytes. script_lines bytes ≡ None)
+HasReadCause (s.NotBuilt u.Script) left old new = IfSome left (λ bytes. (length bytes ≤ input_limit) × (script_lines bytes ≡ None))
 HasReadCause _ left old new = ⊥

@@ -2,7 +2,7 @@
 use crate::{Status, offline_with};
 use amq_engine::Kept;
 use amq_io::{MemoryDisk, MemorySink, MemorySource, Pick};
-use amq_model::{Config, Name, Placed};
+use amq_model::{Config, Name, Placed, Record};
 use amq_scan::scan;
 use amq_state::{Loading, plain_result};
 use std::alloc::Global;
@@ -14,6 +14,11 @@ const DATA_FILE: &str = "activemq-data-1.amq";
 /// Two adds are flushed, then an update and a delete; two adds more are durable at the closing alone.
 const SCRIPT: &[u8] =
     b"add 1 7 6869\nadd 2 7 -\nflush\nupdate 1 8 6a\ndelete 2\nflush\nadd 3 7 -\nadd 4 7 79\n";
+
+/// A transaction is flushed before its end; another one is prepared with a delete, and a third one goes
+/// back.
+const TRANSACTIONS: &[u8] =
+    b"add 1 7 -\nbegin a\naddtx a 2 7 -\nflush\naddtx a 3 7 6a\ncommit a\nbegin b\ndeletetx b 1 -\nprepare b 01\nbegin c\nupdatetx c 2 7 -\nrollback c\n";
 
 /// A file and a buffer have room for several records.
 const SMALL: Config = Config {
@@ -100,8 +105,38 @@ fn is_part(records: &[Placed], list: &[Placed]) -> bool {
     rest.is_empty()
 }
 
+/// Whether it is an add, update or delete of this transaction.
+fn is_entry(placed: &Placed, number: u64) -> bool {
+    match placed.rec {
+        Record::AddTx { tx, .. } | Record::UpdateTx { tx, .. } | Record::DeleteTx { tx, .. } => {
+            tx == number
+        }
+        _ => false,
+    }
+}
+
+/// How many adds, updates and deletes of the transaction these have.
+fn entries(records: &[Placed], number: u64) -> usize {
+    records
+        .iter()
+        .filter(|placed| is_entry(placed, number))
+        .count()
+}
+
+/// Each end that counts its transaction's records before it has all of those in the history.
+fn check_whole(rt: &impl Abort, records: &[Placed], history: &[Placed]) {
+    for (i, placed) in records.iter().enumerate() {
+        if let Record::Commit { tx, count } | Record::Prepare { tx, count, .. } = placed.rec {
+            let (before, _) = records.split_at(i);
+            if entries(before, tx) == count as usize {
+                assert_eq!(rt; entries(history, tx), count as usize);
+            }
+        }
+    }
+}
+
 /// These records are a kept part of the history: as many of the first as the last receipt counts, and
-/// then a part of the later ones.
+/// then a part of the later ones, with no transaction in part.
 fn check(rt: &impl Abort, alloc: Global, records: &[Placed], kept: &Kept) -> Result<(), Fail> {
     let (history, durable) = history(alloc, kept)?;
     let history = history.as_slice();
@@ -111,6 +146,7 @@ fn check(rt: &impl Abort, alloc: Global, records: &[Placed], kept: &Kept) -> Res
     assert_eq!(rt; records.get(..durable), Some(sure));
     let rest = records.get(durable..).ok_or("less than durable")?;
     assert!(rt; is_part(rest, later));
+    check_whole(rt, records, history);
     Ok(())
 }
 
@@ -194,4 +230,54 @@ fn a_record_lost_in_the_middle(rt: HostRuntime) -> Result<(), Fail> {
     }
     assert_eq!(rt; places.as_slice(), [16, 62].as_slice());
     check(&rt, alloc, &records, &left.kept)
+}
+
+/// As above, with transactions.
+#[test]
+fn a_crash_at_every_moment_of_transactions(rt: HostRuntime) -> Result<(), Fail> {
+    let alloc = rt.alloc();
+    for call in 0..=12 {
+        let left = run(alloc, TRANSACTIONS, call)?;
+        for pick in [Pick::Keep, Pick::Revert, Pick::Fill(0)] {
+            let records = records(&rt, alloc, &left.disk.crash(pick)?)?;
+            check(&rt, alloc, &records, &left.kept)?;
+        }
+    }
+    Ok(())
+}
+
+/// The sync of the second flush fails, and a crash loses one record of the buffer: without its add the
+/// commit has no effect, and without its delete the prepare leaves nothing in doubt. For each record that
+/// is lost, where it stands, and the counts of what is live and of what is in doubt.
+#[test]
+fn each_record_of_a_buffer_lost_in_turn(rt: HostRuntime) -> Result<(), Fail> {
+    let alloc = rt.alloc();
+    let left = run(alloc, TRANSACTIONS, 9)?;
+    assert_eq!(rt; left.status, Status::DiskFault);
+    let (history, durable) = history(alloc, &left.kept)?;
+    assert_eq!(rt; (history.len(), durable), (6, 2));
+    let rows: [(usize, usize, usize, usize); 4] = [
+        (70, 102, 1, 1),
+        (102, 124, 1, 1),
+        (124, 154, 3, 0),
+        (154, 181, 3, 0),
+    ];
+    for (from, to, live, in_doubt) in rows {
+        let mut file = left.disk.look(DATA_FILE)?.ok_or("no file")?;
+        file.as_mut_slice()
+            .get_mut(from..to)
+            .ok_or("a short file")?
+            .fill(0);
+        let name = Name::of(alloc, DATA_FILE)?.ok_or("no name")?;
+        let disk = MemoryDisk::of_files(alloc, vec![in alloc; (name, file)]?)?;
+        let records = records(&rt, alloc, &disk)?;
+        assert_eq!(rt; records.len(), 5);
+        check(&rt, alloc, &records, &left.kept)?;
+        let state = plain_result(alloc, &records)?;
+        assert_eq!(rt;
+            (state.live.as_slice().len(), state.in_doubt.as_slice().len()),
+            (live, in_doubt)
+        );
+    }
+    Ok(())
 }

@@ -1,11 +1,12 @@
 //! The commands of the program: what its words, its source and its disk make of its sink and its status.
 //!
-//! `offline` in `program` is the one call that `amq_main` makes; `offline_with` takes a configuration.
-//! `words` and `script` read what is asked, `run` and `replay` give it to a journal, `reload` loads what
-//! the journal left, `input` and `output` are the streams' two ends, and `status` has how a run ends.
+//! `offline` in `program` is the one call that `amq_main` makes; `offline_with` takes a configuration. `words` and `script` read what is asked, `run`
+//! and `replay` give it to a journal, `labels` has what a script's labels stand for, `reload` loads what the journal left, `input` and `output` are
+//! the streams' two ends, and `status` has how a run ends.
 #![tactic(auto)]
 
 mod input;
+mod labels;
 mod output;
 mod program;
 mod reload;

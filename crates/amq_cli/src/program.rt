@@ -7,7 +7,7 @@ ghost use Rattle.amq_model.specs.Legal.{AreLegal};
 ghost use Rattle.amq_io.specs.Cause.{Rose};
 ghost use Rattle.amq_engine.specs.Receipts.{IsCrashSafe, IsLastCount};
 ghost use Rattle.amq_cli.specs.Words.{is_replay};
-ghost use Rattle.amq_cli.specs.Offline.{lists_of, HasBase, HasCause, IsRun, IsOutput, is_before_opening, is_past_script, is_unwritten, is_short, defaults, IsWritten, IsEnd};
+ghost use Rattle.amq_cli.specs.Offline.{lists_of, HasBase, HasCause, IsRun, IsOutput, IsLoadedState, is_before_opening, is_past_script, is_unwritten, is_short, defaults, IsWritten, IsEnd};
 ghost use Rattle.amq_cli.specs.Output.{IsPartWritten};
 ghost use Rattle.amq_cli.specs.Script.{IsScript};
 
@@ -44,7 +44,7 @@ pub fn offline<D: Disk, S: Source, K: Sink>(
     ensures words { (result.0 ≡ Status.NotBuilt Unbuilt.Words) ↔ (is_replay (map (λ word. word.now) words.now) ≡ false) }
     ensures run { result.0 ≡ Status.Ok → IsRun IsWritten defaults (S.left source.old) (S.left source.new) (D.past disk) (D.past result.1) (K.taken sink.old) (K.taken sink.new) result.2.base result.2.steps.items result.2.receipts.items }
     ensures run_unwritten { result.0 ≡ Status.SinkFault → IsRun IsPartWritten defaults (S.left source.old) (S.left source.new) (D.past disk) (D.past result.1) (K.taken sink.old) (K.taken sink.new) result.2.base result.2.steps.items result.2.receipts.items }
-    ensures output { IsOutput defaults.buffer_timeout result.0 (S.left source.old) (S.left source.new) (D.faults result.1) (K.faults sink.old) (K.faults sink.new) (K.taken sink.old) (K.taken sink.new) result.2.steps.items result.2.receipts.items }
+    ensures output { IsOutput defaults.buffer_timeout result.0 (IsLoadedState (D.past result.1) defaults.user_version result.2.base result.2.steps.items) (S.left source.old) (S.left source.new) (D.faults result.1) (K.faults sink.old) (K.faults sink.new) (K.taken sink.old) (K.taken sink.new) result.2.steps.items result.2.receipts.items }
     ensures cause { HasCause result.0 (S.left source.old) (D.past disk) (D.past result.1) (S.faults source.old) (S.faults source.new) (K.faults sink.old) (K.faults sink.new) (D.faults disk) (D.faults result.1) }
     ensures script { is_past_script result.0 ≡ true → IsScript (S.left source.old) (S.left source.new) }
     ensures unopened { is_before_opening result.0 ≡ true → (result.1 ≡ disk) × (result.2.steps.items ≡ []) × (result.2.receipts.items ≡ []) }
@@ -80,7 +80,7 @@ pub fn offline_with<D: Disk, S: Source, K: Sink>(
     ensures words { (result.0 ≡ Status.NotBuilt Unbuilt.Words) ↔ (is_replay (map (λ word. word.now) words.now) ≡ false) }
     ensures run { result.0 ≡ Status.Ok → IsRun IsWritten config (S.left source.old) (S.left source.new) (D.past disk) (D.past result.1) (K.taken sink.old) (K.taken sink.new) result.2.base result.2.steps.items result.2.receipts.items }
     ensures run_unwritten { result.0 ≡ Status.SinkFault → IsRun IsPartWritten config (S.left source.old) (S.left source.new) (D.past disk) (D.past result.1) (K.taken sink.old) (K.taken sink.new) result.2.base result.2.steps.items result.2.receipts.items }
-    ensures output { IsOutput config.buffer_timeout result.0 (S.left source.old) (S.left source.new) (D.faults result.1) (K.faults sink.old) (K.faults sink.new) (K.taken sink.old) (K.taken sink.new) result.2.steps.items result.2.receipts.items }
+    ensures output { IsOutput config.buffer_timeout result.0 (IsLoadedState (D.past result.1) config.user_version result.2.base result.2.steps.items) (S.left source.old) (S.left source.new) (D.faults result.1) (K.faults sink.old) (K.faults sink.new) (K.taken sink.old) (K.taken sink.new) result.2.steps.items result.2.receipts.items }
     ensures cause { HasCause result.0 (S.left source.old) (D.past disk) (D.past result.1) (S.faults source.old) (S.faults source.new) (K.faults sink.old) (K.faults sink.new) (D.faults disk) (D.faults result.1) }
     ensures script { is_past_script result.0 ≡ true → IsScript (S.left source.old) (S.left source.new) }
     ensures unopened { is_before_opening result.0 ≡ true → (result.1 ≡ disk) × (result.2.steps.items ≡ []) × (result.2.receipts.items ≡ []) }

@@ -6,7 +6,7 @@ ghost use Rattle.amq_model.specs.Legal.{AreLegal};
 ghost use Rattle.amq_model.specs.Leaves.{Leaves, Unchanged, LeavesNothingNew, Told, IsThere};
 ghost use Rattle.amq_engine.specs.Engine.{data_name, AreBegun, IsChronicle};
 ghost use Rattle.amq_engine.specs.Receipts.{IsCrashSafe, IsLastCount};
-ghost use Rattle.amq_cli.specs.Offline.{lists_of, HasBase, HasRun, HasRunCause, HasText, IsReported, HasRunOn, HasDiskCause, is_unwritten};
+ghost use Rattle.amq_cli.specs.Offline.{lists_of, HasBase, HasRun, HasRunCause, HasText, IsLoadedState, IsReported, HasRunOn, HasDiskCause, is_unwritten};
 ghost use Rattle.amq_cli.specs.Loaded.{content_of};
 ghost use Rattle.amq_cli.specs.Playing.{HasPlayed};
 ghost use Rattle.amq_cli.specs.Replay.{is_built};
@@ -34,7 +34,7 @@ pub fn run<D: Disk>(
     requires built { All (λ line. IsTrue (is_built line)) lines.items }
     requires empty { text.old.items ≡ [] }
     ensures run { result.0 ≡ Status.Ok → HasRun config lines.items text.new.items (D.past disk) (D.past result.1) result.2.base result.2.steps.items result.2.receipts.items }
-    ensures text { HasText config.buffer_timeout result.0 lines.items (D.faults result.1) result.2.steps.items result.2.receipts.items text.new.items }
+    ensures text { HasText config.buffer_timeout result.0 (IsLoadedState (D.past result.1) config.user_version result.2.base result.2.steps.items) lines.items (D.faults result.1) result.2.steps.items result.2.receipts.items text.new.items }
     ensures unbuilt { is_unwritten result.0 ≡ true → text.new.items ≡ [] }
     ensures cause { HasRunCause result.0 (D.past disk) (D.past result.1) (D.faults disk) (D.faults result.1) }
     ensures base { result.2.base ≡ [] }
@@ -69,9 +69,9 @@ fn run_on<D: Disk>(
     requires open { engine.closed ≡ None }
     requires config { IsConfig engine.config }
     requires base { engine.chronicle.base ≡ [] }
-    requires begun { HasPlayed engine.config.buffer_timeout [] 1 engine text.old.items }
+    requires begun { HasPlayed engine.config.buffer_timeout [] (λ label. 0) 1 engine text.old.items }
     ensures run { result.0 ≡ Status.Ok → HasRunOn engine.config lines.items text.new.items (D.past result.1) result.2.base result.2.steps.items result.2.receipts.items }
-    ensures text { HasText engine.config.buffer_timeout result.0 lines.items (D.faults result.1) result.2.steps.items result.2.receipts.items text.new.items }
+    ensures text { HasText engine.config.buffer_timeout result.0 (IsLoadedState (D.past result.1) engine.config.user_version result.2.base result.2.steps.items) lines.items (D.faults result.1) result.2.steps.items result.2.receipts.items text.new.items }
     ensures cause { HasDiskCause result.0 (D.faults engine.disk) (D.faults result.1) }
     ensures base { result.2.base ≡ [] }
     ensures legal { AreLegal result.2.base result.2.steps.items engine.config }
@@ -80,7 +80,7 @@ fn run_on<D: Disk>(
     ensures durable { result.0 ≡ Status.Ok → IsLastCount (length (history_of result.2.steps.items)) result.2.receipts.items }
     ensures receipted { result.2.receipts.items ≢ [] }
 {
-    let played = replay(&mut engine, lines, text);
+    let played = replay(alloc, &mut engine, lines, text);
     let (mut disk, chronicle, closed) = engine.close();
     let status = match played {
         Ok(()) => match closed {

@@ -7,7 +7,7 @@ ghost use Rattle.amq_cli.specs.Script.{IsSaid, HasScriptCause, HasReadCause};
 use crate::input::{INPUT_LIMIT, InputFault, read_whole};
 use crate::status::{Status, Unbuilt};
 use amq_io::Source;
-use amq_model::{Command, Items, Line, Mode};
+use amq_model::{Items, Line, Mode};
 use amq_script::{ScriptFault, parse};
 use std::alloc::Global;
 
@@ -63,14 +63,9 @@ fn are_built(lines: &[Line]) -> bool
     lines.iter().all(is_built)
 }
 
-/// Whether a replay takes the line today: a command of no transaction, or a tick.
+/// Whether a replay takes the line today: all but those of giving up files and of compaction.
 fn is_built(line: &Line) -> bool
     ensures { result ≡ is_built line.now }
 {
-    matches!(
-        line,
-        Line::Plain(
-            Command::Add { .. } | Command::Update { .. } | Command::Delete { .. } | Command::Flush
-        ) | Line::Tick(_)
-    )
+    !matches!(line, Line::Reclaim | Line::Compact | Line::Step(_))
 }

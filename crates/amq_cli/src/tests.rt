@@ -137,12 +137,65 @@ fn scripts_and_their_texts(rt: HostRuntime) -> Result<(), Fail> {
     Ok(())
 }
 
+/// Refusals in their order, ids held by an open transaction, and labels that are named again.
+#[test]
+fn transactions_and_their_texts(rt: HostRuntime) -> Result<(), Fail> {
+    let rows: [(&[u8], &[u8]); 10] = [
+        (
+            b"begin a\naddtx a 3 7 6869\nprepare a 0102\naddtx a 4 7 -\n",
+            b"tx 1\nok 0\nok 1\nrefused TxPrepared 1\nlive 0\nin doubt 1\ntx 1 extra 0102 records 1 deletes 0\n  add 3 7 6869\n",
+        ),
+        (
+            b"add 1 7 -\nbegin a\ndeletetx a 1 -\nupdate 1 7 6a\nadd 1 7 -\ndelete 2\n",
+            b"ok 0\ntx 1\nok 1\nrefused Held 1 1\nrefused Held 1 1\nrefused NoRecord 2\nlive 1\nadd 1 7 -\nin doubt 0\n",
+        ),
+        (
+            b"begin a\ncommit a\nbegin a\naddtx a 1 7 -\nrollback a\ncommit a\n",
+            b"tx 1\nok 0\ntx 2\nok 1\nok 2\nrefused NoTx 2\nlive 0\nin doubt 0\n",
+        ),
+        (
+            b"begin a\naddtx a 1 7 -\ndeletetx a 1 -\ndeletetx a 1 -\naddtx a 1 8 6a\ncommit a\n",
+            b"tx 1\nok 0\nok 1\nrefused NoRecord 1\nok 2\nok 3\nlive 1\nadd 1 8 6a\nin doubt 0\n",
+        ),
+        (
+            b"bind a 9223372036854775807\ncommit a\nbind a 5\naddtx a 1 7 -\nprepare a -\n",
+            b"bound 9223372036854775807\nrefused NoTx 9223372036854775807\nbound 5\nrefused NoTx 5\nrefused NoTx 5\nlive 0\nin doubt 0\n",
+        ),
+        (
+            b"add 1 7 -\nbegin a\nupdatetx a 1 7 -\nbegin b\naddtx b 1 7 -\ndeletetx b 2 -\nrollback a\ndeletetx b 1 -\ncommit b\n",
+            b"ok 0\ntx 1\nok 1\ntx 2\nrefused Held 1 1\nrefused NoRecord 2\nok 2\nok 3\nok 4\nlive 0\nin doubt 0\n",
+        ),
+        (
+            b"begin a\ncommit a\naddtx a 1 7 00000000000000000000000000000000000000000000000000000000000000000000\n",
+            b"tx 1\nok 0\nrefused TooLarge 65 64\nlive 0\nin doubt 0\n",
+        ),
+        (
+            b"add 1 7 -\nbegin a\nprepare a -\nbegin b\ndeletetx b 1 -\ndeletetx a 1 -\nprepare a -\ncommit a\nprepare a -\nrollback b\n",
+            b"ok 0\ntx 1\nok 1\ntx 2\nok 2\nrefused TxPrepared 1\nrefused TxPrepared 1\nok 3\nrefused NoTx 1\nok 4\nlive 1\nadd 1 7 -\nin doubt 0\n",
+        ),
+        (
+            b"begin a\nbegin b\naddtx b 1 7 -\nbind a 2\nupdatetx a 1 9 6b\ncommit a\nadd 1 7 -\n",
+            b"tx 1\ntx 2\nok 0\nbound 2\nok 1\nok 2\nrefused AlreadyLive 1\nlive 2\nadd 1 7 -\nupdate 1 9 6b\nin doubt 0\n",
+        ),
+        (
+            b"begin a\nadd 1 7 -\nadd 2 7 -\nadd 3 7 -\nadd 4 7 -\nadd 5 7 -\nadd 6 7 -\nadd 7 7 -\nadd 8 7 -\nadd 9 7 -\nadd 10 7 -\ncommit a\n",
+            b"tx 1\nok 0\nok 1\nok 2\nok 3\nok 4\nok 5\nok 6\nok 7\nok 8\nok 9\nrefused FileFull 22 10\nlive 10\nadd 1 7 -\nadd 2 7 -\nadd 3 7 -\nadd 4 7 -\nadd 5 7 -\nadd 6 7 -\nadd 7 7 -\nadd 8 7 -\nadd 9 7 -\nadd 10 7 -\nin doubt 0\n",
+        ),
+    ];
+    for (script, text) in rows {
+        let left = replay(rt.alloc(), script)?;
+        assert_eq!(rt; left.status, Status::Ok);
+        assert_eq!(rt; left.text.as_slice(), text);
+    }
+    Ok(())
+}
+
 /// Nothing is written, and no call of the disk is made.
 #[test]
 fn what_is_not_built_is_left_alone(rt: HostRuntime) -> Result<(), Fail> {
     let alloc = rt.alloc();
     let scripts: [&[u8]; 6] = [
-        b"begin a\n",
+        b"compact\n",
         b"add 1 7 6869\nreclaim\n",
         b"step 1\n",
         b"add 1 7\n",

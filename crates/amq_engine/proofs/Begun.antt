@@ -25,7 +25,10 @@ use Rattle.amq_model.specs.Legal.{AreLegal}
 use Rattle.amq_engine.specs.declared.chronicle.Receipted.{Receipted}
 use Rattle.amq_engine.specs.Lists.{Lists, with_base, with_receipt}
 use Rattle.amq_engine.specs.OneFile.{Holds, IsEmpty, header_of}
-use Rattle.amq_engine.specs.Engine.{data_name, temporary_name, MayHold, AreKept, IsTold, IsBegun, IsBlank, AreBegun, HasCome}
+use Rattle.amq_buffer.specs.Buffered.{Buffered}
+use Rattle.amq_tx.specs.State.{TxState}
+use Rattle.amq_tx.specs.Follows.{Follows}
+use Rattle.amq_engine.specs.Engine.{IsValid, data_name, temporary_name, MayHold, AreKept, IsTold, IsBegun, IsBlank, AreBegun, HasCome}
 use Rattle.amq_engine.proofs.Sound.{Holding, header_long}
 use Rattle.amq_engine.proofs.Putting.{length-overlaid}
 use Rattle.amq_engine.proofs.Receipts.{if_some}
@@ -146,11 +149,13 @@ module _ (config : Config) (room : 16 ≤ config.file_size) (infos : List FileIn
         kept_from P F (MayHold config 0 []) IsEmpty m b d
         (kept_weaker IsEmpty (MayHold config 0 []) m b (λ s empty. inr (refl, λ q ne. empty q)) (holds_now IsEmpty m b at early empty_now)) empty_now (may_hold config room) went
 
-    told_begun : (m : ℕ) → IfSome b (IsAt m) → (l : Lists) → IsBlank l → IsTold d config 0 [] (first_lists m l)
+    begun_legal : AreLegal [] [] config
+    begun_legal = record { each = tt; opening = λ k d lt. absurd (omega (arith, lt)) }
+
+    told_begun : (m : ℕ) → IfSome b (IsAt m) → (l : Lists) → IsBlank l → IsTold d config 0 [] [] (first_lists m l)
     told_begun m at l blank = record {
       base = refl;
-      steps = ap history_of blank.1;
-      legal = subst (λ (ss : List Step). AreLegal [] ss config) (sym blank.1) (record { each = tt; opening = λ k d lt. absurd (omega (arith, lt)) });
+      same = blank.1;
       kept = subst (λ (rs : List Receipted). AreKept d config 0 [] (rs ++ record { durable = 0; moment = m } ∷ [])) (sym blank.2) ((omega arith, kept_begun m at), tt);
     }
 
@@ -162,7 +167,7 @@ module _ (config : Config) (room : 16 ≤ config.file_size) (infos : List FileIn
     begun_safe m later ranges at on lists lists' blank is = subst (λ (l : Option Lists). IfSome l (IsCrashSafe d later config.user_version)) (sym is) (by lists blank) where
       by : (o : Option Lists) → IfSome o IsBlank → IfSome (option_map (with_receipt 0 m) (option_map (with_base []) o)) (IsCrashSafe d later config.user_version)
       by None blank = tt
-      by (Some l) blank = told_safe d later config 0 [] (first_lists m l) ranges (λ k x lt. absurd (omega (arith, lt))) (omega arith) (told_begun m at l blank) (order_begun m later on l blank)
+      by (Some l) blank = told_safe d later config 0 [] [] (first_lists m l) ranges (λ k x lt. absurd (omega (arith, lt))) refl begun_legal (omega arith) (told_begun m at l blank) (order_begun m later on l blank)
 
   pub begun_is : Leaves P E b d → (m later : ℕ) → IfSome b (IsAt m) → m ≤ later → (lists lists' : Option Lists) (receipts : ℕ) → IfSome lists IsBlank → lists' ≡ option_map (with_receipt 0 m) (option_map (with_base []) lists) → 1 ≤ receipts → IsBegun d later lists' receipts config
   begun_is went m later at on lists lists' receipts blank is more = record {
@@ -170,9 +175,9 @@ module _ (config : Config) (room : 16 ≤ config.file_size) (infos : List FileIn
     last = subst (λ (l : Option Lists). IfSome l (λ l. IsLastCount 0 l.receipts)) (sym is) (last_count lists blank);
     reads_now = reads_begun went;
     room = more;
-    told = subst (λ (l : Option Lists). IfSome l (IsTold d config 0 [])) (sym is) (by lists blank);
+    told = subst (λ (l : Option Lists). IfSome l (IsTold d config 0 [] [])) (sym is) (by lists blank);
   } where
-    by : (o : Option Lists) → IfSome o IsBlank → IfSome (option_map (with_receipt 0 m) (option_map (with_base []) o)) (IsTold d config 0 [])
+    by : (o : Option Lists) → IfSome o IsBlank → IfSome (option_map (with_receipt 0 m) (option_map (with_base []) o)) (IsTold d config 0 [] [])
     by None blank = tt
     by (Some l) blank = told_begun E went m at l blank
 
@@ -226,3 +231,35 @@ still (Some p) = (p, refl, record { later = omega arith; told = refl; reads = λ
 
 pub asked_nothing : (config : Config) (moment : ℕ) (lists : Option Lists) (h : Option Past) → IfSome lists IsBlank → IfSome lists (HasCome config moment h h)
 asked_nothing config moment lists h blank = if_some IsBlank (HasCome config moment h h) lists (λ l blank. inl (blank.2, still h)) blank
+
+-- ---- the engine of a journal that began
+
+-- the table of nothing
+pub begun_valid : (past : Option Past) (moment : ℕ) (lists : Option Lists) (room : ℕ) (config : Config) (table : TxState) (buffer : Buffered) → IsConfig config → IsBegun past moment lists room config → Follows table [] [] → buffer ≡ record { bytes = []; capacity = config.buffer_size; timeout = config.buffer_timeout; since = None }
+    → IsValid past moment lists room config table (record { buffer = buffer; end = 16; appended = 0; durable = 0 })
+begun_valid past moment lists room config table buffer ranges begun follows is = subst (λ (b : Buffered). IsValid past moment lists room config table (record { buffer = b; end = 16; appended = 0; durable = 0 })) (sym is) (record {
+  sound = record {
+    history = [];
+    steps = [];
+    items = λ k x lt. absurd (omega (arith, lt));
+    placed = refl;
+    legal = record { each = tt; opening = λ k d lt. absurd (omega (arith, lt)) };
+    follows = follows;
+    size_least = ranges.file_size_least;
+    size_most = ranges.file_size_most;
+    capacity = refl;
+    timeout = refl;
+    first = (λ e. refl, λ e. refl);
+    count = refl;
+    most = omega arith;
+    reads_now = begun.reads_now;
+    buffered = refl;
+    place = refl;
+    fits = omega (arith, ranges.file_size_least);
+    room = λ some. absurd (some refl);
+    told = begun.told;
+  };
+  ranges = ranges;
+  order = begun.order;
+  last = begun.last;
+})

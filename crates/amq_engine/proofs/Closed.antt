@@ -14,18 +14,19 @@ use Rattle.amq_scan.specs.Written.{Item, IsItem, spelled, spots_from, file_bytes
 use Rattle.amq_scan.proofs.Written.{scan_of_written}
 use Rattle.amq_engine.specs.Lists.{Lists}
 use Rattle.amq_engine.specs.OneFile.{header_of, placed_in, IsJournalFile}
+use Rattle.amq_tx.specs.State.{TxState}
 use Rattle.amq_engine.specs.declared.tail.Tail.{Tail}
-use Rattle.amq_engine.specs.Engine.{data_name, IsPlainItem, IsTold, IsSound}
+use Rattle.amq_engine.specs.Engine.{data_name, IsNewItem, IsTold, IsSound}
 use Rattle.amq_engine.proofs.Sound.{Holding, header_long}
 
 pub when_ok : {T E : Type 0} (r : Result T E) (P Q : Type 0) → (P → Q) → OnOk r P → OnOk r Q
 when_ok (Ok x) P Q f h = f h
 when_ok (Err e) P Q f h = tt
 
-items_of : (history : List Item) → All IsPlainItem history → All (IsItem 2) history
+items_of : (history : List Item) → All IsNewItem history → All (IsItem 2) history
 items_of history all = λ k d lt. (all k d lt).item
 
-journal_of : (config : Config) (history : List Item) (s : Files) → All IsPlainItem history → Holding config (length history) history s → IsJournalFile data_name config.user_version config.file_size (placed_in 1 history) s
+journal_of : (config : Config) (history : List Item) (s : Files) → All IsNewItem history → Holding config (length history) history s → IsJournalFile data_name config.user_version config.file_size (placed_in 1 history) s
 journal_of config history s items h =
     let header : List ℕ = header_of config.user_version 1 in
     let all : take h.put history ≡ history = take_all h.put history h.ahead in
@@ -41,9 +42,9 @@ journal_of config history s items h =
       is = refl;
     }
 
-pub sound_journal : (past : Option Past) (lists : Option Lists) (room : ℕ) (config : Config) (is_live : ℕ → Bool) (t : Tail) → IsSound past lists room config is_live t → t.durable ≡ t.appended
+pub sound_journal : (past : Option Past) (lists : Option Lists) (room : ℕ) (config : Config) (table : TxState) (t : Tail) → IsSound past lists room config table t → t.durable ≡ t.appended
     → IfSome lists (λ l. Told past (IsJournalFile data_name config.user_version config.file_size (history_of l.steps)))
-sound_journal past lists room config is_live t s flushed = by lists s.told where
+sound_journal past lists room config table t s flushed = by lists s.told where
   at : (l : Lists) → history_of l.steps ≡ placed_in 1 s.history → (h : Option Past) → Told h (Holding config (length s.history) s.history) → Told h (IsJournalFile data_name config.user_version config.file_size (history_of l.steps))
   at l is None told = tt
   at l is (Some p) told = subst (λ (ps : List Placed). IsJournalFile data_name config.user_version config.file_size ps (content p.start p.calls)) (sym is) (journal_of config s.history (content p.start p.calls) s.items told)
@@ -51,6 +52,6 @@ sound_journal past lists room config is_live t s flushed = by lists s.told where
   now : Told past (Holding config (length s.history) s.history)
   now = subst (λ (n : ℕ). Told past (Holding config n s.history)) (flushed ∙ s.count) (all_told past (Holding config t.durable s.history) s.reads_now)
 
-  by : (o : Option Lists) → IfSome o (IsTold past config t.durable s.history) → IfSome o (λ l. Told past (IsJournalFile data_name config.user_version config.file_size (history_of l.steps)))
+  by : (o : Option Lists) → IfSome o (IsTold past config t.durable s.history s.steps) → IfSome o (λ l. Told past (IsJournalFile data_name config.user_version config.file_size (history_of l.steps)))
   by None told = tt
-  by (Some l) told = at l told.steps past now
+  by (Some l) told = at l (ap history_of told.same ∙ s.placed) past now

@@ -8,7 +8,7 @@ use Rattle.amq_model.specs.declared.record.Placed.{Placed}
 use Rattle.amq_model.specs.declared.command.Command.{Command}
 use Rattle.amq_model.specs.declared.command.Command.TheVariants as c
 use Rattle.amq_model.specs.declared.command.Reply.{Reply}
-use Rattle.amq_model.specs.declared.command.Reply.TheVariants.{Appended, Durable}
+use Rattle.amq_model.specs.declared.command.Reply.TheVariants.{Appended, Begun, Durable}
 use Rattle.amq_model.specs.declared.config.Config.{Config}
 use Rattle.amq_model.specs.declared.history.Answer.{Answer}
 use Rattle.amq_model.specs.declared.history.Answer.TheVariants.{Done, Refused}
@@ -16,15 +16,14 @@ use Rattle.amq_model.specs.declared.history.Step.{Step}
 use Rattle.amq_model.specs.declared.refusal.Refusal.{Refusal}
 use Rattle.amq_model.specs.RecordAt.{whole_len}
 use Rattle.amq_model.specs.Directory.{placed}
-use Rattle.amq_model.specs.Plain.{IsPlain, IsPlainCommand}
-use Rattle.amq_model.specs.Answers.{record_of, history_of, in_view, live_behind, too_large, id_refusal, refusal, first_some, accepted, answer}
-use Rattle.amq_model.specs.Legal.{StandsNext, number_for, end_of, file_full, or_file_full, IsLegalStep, AreLegalFrom, AreLegal}
-use Rattle.amq_model.proofs.Plain.{plain_refusal}
+use Rattle.amq_model.specs.Answers.{record_of, history_of, too_large, tx_refusal, held, id_refusal, spent, refusal, first_some, accepted, answer, highest}
+use Rattle.amq_tx.specs.Follows.{refusal_of, number_of_begin}
+use Rattle.amq_model.specs.Legal.{StandsNext, end_of, file_full, or_file_full, IsLegalStep, AreLegalFrom, AreLegal}
 use Rattle.amq_scan.specs.Written.{Item, spelled, spots_from, end_from}
 use Rattle.amq_scan.proofs.Written.{spots_more}
 use Rattle.amq_scan.proofs.Scans.{whole_len-pos}
 use Rattle.amq_engine.specs.OneFile.{placed_in}
-use Rattle.amq_engine.specs.Engine.{command_id, is_live_after, id_refused, full, refused, reply_to, is_flush, IsPlainItem}
+use Rattle.amq_engine.specs.Engine.{full, refused, bare_reply}
 
 -- ---- places
 
@@ -41,13 +40,6 @@ length-spots place (x ∷ xs) = ap suc (length-spots (place + whole_len 2 x.rec)
 
 pub length-placed : (history : List Item) → length (placed_in 1 history) ≡ length history
 length-placed history = length-map (spots_from 2 16 history) (placed 1) ∙ length-spots 16 history
-
-plain_from : (place : ℕ) (items : List Item) → All IsPlainItem items → All (λ p. IsPlain p.rec) (map_of (placed 1) (spots_from 2 place items))
-plain_from place [] all = λ k d lt. absurd (omega (arith, lt))
-plain_from place (x ∷ xs) all = All-cons (λ p. IsPlain p.rec) _ _ (All-head IsPlainItem x xs all).plain (plain_from (place + whole_len 2 x.rec) xs (All-tail IsPlainItem x xs all))
-
-pub all_plain : (history : List Item) → All IsPlainItem history → All (λ p. IsPlain p.rec) (placed_in 1 history)
-all_plain history all = plain_from 16 history all
 
 end_from_place : (place : ℕ) (items : List Item) (x : Item) → end_of (map_of (placed 1) (spots_from 2 place (x ∷ items))) ≡ end_from 2 place (x ∷ items)
 end_from_place place [] x = refl
@@ -83,34 +75,27 @@ abbrev pub answered_by : Option Refusal → Reply → Answer
 answered_by (Some r) reply = Refused r
 answered_by None reply = Done reply
 
+-- the reply to a command that isn't refused
+abbrev pub reply_behind : List Step → Command → Reply
+reply_behind steps c.Begin = Begun (highest [] steps + 1)
+reply_behind steps c.Flush = Durable (length (history_of steps))
+reply_behind steps _ = Appended (length (history_of steps))
+
+pub accepted_is : (steps : List Step) (command : Command) → accepted [] steps command ≡ Done (reply_behind steps command)
+accepted_is steps (c.Add id user_type body) = refl
+accepted_is steps (c.Update id user_type body) = refl
+accepted_is steps (c.Delete id) = refl
+accepted_is steps c.Begin = refl
+accepted_is steps (c.AddTx tx id user_type body) = refl
+accepted_is steps (c.UpdateTx tx id user_type body) = refl
+accepted_is steps (c.DeleteTx tx id body) = refl
+accepted_is steps (c.Prepare tx extra) = refl
+accepted_is steps (c.Commit tx) = refl
+accepted_is steps (c.Rollback tx) = refl
+accepted_is steps c.Flush = refl
+
 file_full_is : (config : Config) (history : List Placed) (end : ℕ) (command : Command) → end ≡ end_of history → file_full history config command ≡ full config end command
 file_full_is config history end command is = ap (λ (n : ℕ). full config n command) (sym is)
-
-id_refusal_is : (steps : List Step) (command : Command) → IsPlainCommand command → id_refusal [] steps command ≡ id_refused (in_view (history_of steps) None (command_id command)) command
-id_refusal_is steps (c.Add id user_type body) is = refl
-id_refusal_is steps (c.Delete id) is = refl
-id_refusal_is steps (c.Update id user_type body) is = refl
-id_refusal_is steps c.Begin is = absurd is
-id_refusal_is steps (c.AddTx tx id user_type body) is = absurd is
-id_refusal_is steps (c.UpdateTx tx id user_type body) is = absurd is
-id_refusal_is steps (c.DeleteTx tx id body) is = absurd is
-id_refusal_is steps (c.Prepare tx extra) is = absurd is
-id_refusal_is steps (c.Commit tx) is = absurd is
-id_refusal_is steps (c.Rollback tx) is = absurd is
-id_refusal_is steps c.Flush is = refl
-
-accepted_is : (steps : List Step) (command : Command) → IsPlainCommand command → accepted [] steps command ≡ Done (reply_to (length (history_of steps)) command)
-accepted_is steps (c.Add id user_type body) is = refl
-accepted_is steps (c.Delete id) is = refl
-accepted_is steps (c.Update id user_type body) is = refl
-accepted_is steps c.Begin is = absurd is
-accepted_is steps (c.AddTx tx id user_type body) is = absurd is
-accepted_is steps (c.UpdateTx tx id user_type body) is = absurd is
-accepted_is steps (c.DeleteTx tx id body) is = absurd is
-accepted_is steps (c.Prepare tx extra) is = absurd is
-accepted_is steps (c.Commit tx) is = absurd is
-accepted_is steps (c.Rollback tx) is = absurd is
-accepted_is steps c.Flush is = refl
 
 abbrev answer_by : Option Refusal → Answer → Answer
 answer_by (Some r) otherwise = Refused r
@@ -127,15 +112,24 @@ full_by history config command reply None (Some r) o is = refl
 full_by history config command reply None None None is = rw (is, or_file_full) refl
 full_by history config command reply None None (Some r) is = rw (is, or_file_full) refl
 
--- what the journal of one thread answers a command of no transaction, where the file may be full
-pub answer_is : (steps : List Step) (config : Config) (command : Command) (is_live : Bool) (end : ℕ) → IsPlainCommand command → All (λ p. IsPlain p.rec) (history_of steps) → is_live ≡ in_view (history_of steps) None (command_id command) → end ≡ end_of (history_of steps)
-    → or_file_full (history_of steps) config command (answer [] steps config command) ≡ answered_by (refused config is_live end command) (reply_to (length (history_of steps)) command)
-answer_is steps config command is_live end kind plain known at =
+one_of : (o : Option Refusal) → o ≡ first_some (o ∷ [])
+one_of None = refl
+one_of (Some r) = refl
+
+regroup : (a : Option Refusal) (os : List (Option Refusal)) → first_some (a ∷ os) ≡ first_some (a ∷ first_some os ∷ [])
+regroup (Some r) os = refl
+regroup None os = one_of (first_some os)
+
+-- what the journal of one thread answers a command, where the file may be full
+pub answer_is : (steps : List Step) (config : Config) (command : Command) (by_table : Option Refusal) (end : ℕ) → by_table ≡ refusal_of [] steps command → end ≡ end_of (history_of steps)
+    → or_file_full (history_of steps) config command (answer [] steps config command) ≡ answered_by (refused config by_table end command) (reply_behind steps command)
+answer_is steps config command by_table end known at =
+    let refuses : List (Option Refusal) = tx_refusal [] steps command ∷ held [] steps command ∷ id_refusal [] steps command ∷ spent [] steps command ∷ [] in
     ap (or_file_full (history_of steps) config command)
-    (answer_opened steps config command (first_some (too_large config command ∷ id_refused is_live command ∷ []))
-    (plain_refusal steps config command kind plain ∙ ap (λ (o : Option Refusal). first_some (too_large config command ∷ o ∷ [])) (id_refusal_is steps command kind ∙ ap (λ (b : Bool). id_refused b command) (sym known)))
-    ∙ ap (answer_by (first_some (too_large config command ∷ id_refused is_live command ∷ []))) (accepted_is steps command kind))
-    ∙ full_by (history_of steps) config command (reply_to (length (history_of steps)) command) (too_large config command) (id_refused is_live command) (full config end command) (file_full_is config (history_of steps) end command at)
+    (answer_opened steps config command (first_some (too_large config command ∷ by_table ∷ []))
+    (regroup (too_large config command) refuses ∙ ap (λ (o : Option Refusal). first_some (too_large config command ∷ o ∷ [])) (sym known))
+    ∙ ap (answer_by (first_some (too_large config command ∷ by_table ∷ []))) (accepted_is steps command))
+    ∙ full_by (history_of steps) config command (reply_behind steps command) (too_large config command) by_table (full config end command) (file_full_is config (history_of steps) end command at)
 
 -- ---- one more step
 
@@ -154,81 +148,46 @@ legal-snoc config steps s legal one seat = record {
   opening = All-push (λ s. 0 < s.seat) steps s legal.opening seat;
 }
 
--- ---- the record of a command
+-- ---- commands by their records
 
-pub no_number_for : (l : List Placed) (command : Command) (file : ℕ) → IsPlainCommand command → number_for l command file ≡ 0
-no_number_for l (c.Add id user_type body) file is = refl
-no_number_for l (c.Delete id) file is = refl
-no_number_for l (c.Update id user_type body) file is = refl
-no_number_for l c.Begin file is = absurd is
-no_number_for l (c.AddTx tx id user_type body) file is = absurd is
-no_number_for l (c.UpdateTx tx id user_type body) file is = absurd is
-no_number_for l (c.DeleteTx tx id body) file is = absurd is
-no_number_for l (c.Prepare tx extra) file is = absurd is
-no_number_for l (c.Commit tx) file is = absurd is
-no_number_for l (c.Rollback tx) file is = absurd is
-no_number_for l c.Flush file is = refl
+-- a command without a record asks for a flush, or begins a transaction
+pub reply_bare : (steps : List Step) (command : Command) (given : Option ℕ) (reply : Reply) (n : ℕ) → given ≡ number_of_begin [] steps command → record_of command 0 ≡ None → (given ≡ None → n ≡ length (history_of steps)) → reply ≡ bare_reply n given → reply ≡ reply_behind steps command
+reply_bare steps c.Begin given reply n is none count said = said ∙ ap (bare_reply n) is
+reply_bare steps c.Flush given reply n is none count said = said ∙ ap (bare_reply n) is ∙ ap Durable (count is)
+reply_bare steps (c.Add id user_type body) given reply n is none count said = absurd cc
+reply_bare steps (c.Update id user_type body) given reply n is none count said = absurd cc
+reply_bare steps (c.Delete id) given reply n is none count said = absurd cc
+reply_bare steps (c.AddTx tx id user_type body) given reply n is none count said = absurd cc
+reply_bare steps (c.UpdateTx tx id user_type body) given reply n is none count said = absurd cc
+reply_bare steps (c.DeleteTx tx id body) given reply n is none count said = absurd cc
+reply_bare steps (c.Prepare tx extra) given reply n is none count said = absurd cc
+reply_bare steps (c.Commit tx) given reply n is none count said = absurd cc
+reply_bare steps (c.Rollback tx) given reply n is none count said = absurd cc
 
--- the record of a command of no transaction is of none, and changes what is live as the command says
-pub record IsRecordFor (command : Command) (rec : Record) : Type 0 where
-  pub plain : IsPlain rec
-  pub live : (p : Placed) (q : ℕ) (before : Bool) → p.rec ≡ rec → live_behind q before p ≡ is_live_after command q before
+-- a command with a record is answered with its place
+pub reply_appended : (steps : List Step) (command : Command) (given : Option ℕ) (rec : Record) (n m : ℕ) → record_of command m ≡ Some rec → n ≡ length (history_of steps) → Appended n ≡ reply_behind steps command
+reply_appended steps c.Begin given rec n m is count = absurd cc
+reply_appended steps c.Flush given rec n m is count = absurd cc
+reply_appended steps (c.Add id user_type body) given rec n m is count = ap Appended count
+reply_appended steps (c.Update id user_type body) given rec n m is count = ap Appended count
+reply_appended steps (c.Delete id) given rec n m is count = ap Appended count
+reply_appended steps (c.AddTx tx id user_type body) given rec n m is count = ap Appended count
+reply_appended steps (c.UpdateTx tx id user_type body) given rec n m is count = ap Appended count
+reply_appended steps (c.DeleteTx tx id body) given rec n m is count = ap Appended count
+reply_appended steps (c.Prepare tx extra) given rec n m is count = ap Appended count
+reply_appended steps (c.Commit tx) given rec n m is count = ap Appended count
+reply_appended steps (c.Rollback tx) given rec n m is count = ap Appended count
 
-some_is : (a b : Record) → Some a ≡ Some b → a ≡ b
-some_is a b e = cc
-
-record_is : (command : Command) (a b : Record) → Some a ≡ Some b → IsRecordFor command a → IsRecordFor command b
-record_is command a b e is = subst (IsRecordFor command) (some_is a b e) is
-
-with_rec : (p : Placed) (rec : Record) (q : ℕ) (before : Bool) → p.rec ≡ rec → live_behind q before p ≡ live_behind q before (record { file = p.file; place = p.place; compact = p.compact; rec = rec })
-with_rec p rec q before e = ap (λ (r : Record). live_behind q before (record { file = p.file; place = p.place; compact = p.compact; rec = r })) e
-
-pub record_for_is : (command : Command) (rec : Record) → IsPlainCommand command → record_of command 0 ≡ Some rec → IsRecordFor command rec
-record_for_is (c.Add id user_type body) rec kind is = record_is (c.Add id user_type body) _ rec is (record { plain = tt; live = λ p q before e. with_rec p _ q before e })
-record_for_is (c.Delete id) rec kind is = record_is (c.Delete id) _ rec is (record { plain = tt; live = λ p q before e. with_rec p _ q before e })
-record_for_is (c.Update id user_type body) rec kind is = record_is (c.Update id user_type body) _ rec is (record { plain = tt; live = λ p q before e. with_rec p _ q before e })
-record_for_is c.Begin rec kind is = absurd kind
-record_for_is (c.AddTx tx id user_type body) rec kind is = absurd kind
-record_for_is (c.UpdateTx tx id user_type body) rec kind is = absurd kind
-record_for_is (c.DeleteTx tx id body) rec kind is = absurd kind
-record_for_is (c.Prepare tx extra) rec kind is = absurd kind
-record_for_is (c.Commit tx) rec kind is = absurd kind
-record_for_is (c.Rollback tx) rec kind is = absurd kind
-record_for_is c.Flush rec kind is = absurd cc
-
--- a command without a record asks for a flush, and changes no id
-pub record IsBare (command : Command) : Type 0 where
-  pub reply : (n : ℕ) → Durable n ≡ reply_to n command
-  pub live : (q : ℕ) (before : Bool) → before ≡ is_live_after command q before
-  pub asks : is_flush command ≡ true
-
-pub bare_is : (command : Command) → IsPlainCommand command → record_of command 0 ≡ None → IsBare command
-bare_is (c.Add id user_type body) kind is = absurd cc
-bare_is (c.Update id user_type body) kind is = absurd cc
-bare_is (c.Delete id) kind is = absurd cc
-bare_is c.Flush kind is = record { reply = λ n. refl; live = λ q before. refl; asks = refl }
-bare_is c.Begin kind is = absurd kind
-bare_is (c.AddTx tx id user_type body) kind is = absurd kind
-bare_is (c.UpdateTx tx id user_type body) kind is = absurd kind
-bare_is (c.DeleteTx tx id body) kind is = absurd kind
-bare_is (c.Prepare tx extra) kind is = absurd kind
-bare_is (c.Commit tx) kind is = absurd kind
-bare_is (c.Rollback tx) kind is = absurd kind
-
--- a command with a record is answered with its place, and asks for no flush
-pub record IsAppending (command : Command) : Type 0 where
-  pub reply : (n : ℕ) → Appended n ≡ reply_to n command
-  pub asks : is_flush command ≡ false
-
-pub appending_is : (command : Command) (rec : Record) → IsPlainCommand command → record_of command 0 ≡ Some rec → IsAppending command
-appending_is (c.Add id user_type body) rec kind is = record { reply = λ n. refl; asks = refl }
-appending_is (c.Update id user_type body) rec kind is = record { reply = λ n. refl; asks = refl }
-appending_is (c.Delete id) rec kind is = record { reply = λ n. refl; asks = refl }
-appending_is c.Flush rec kind is = absurd cc
-appending_is c.Begin rec kind is = absurd kind
-appending_is (c.AddTx tx id user_type body) rec kind is = absurd kind
-appending_is (c.UpdateTx tx id user_type body) rec kind is = absurd kind
-appending_is (c.DeleteTx tx id body) rec kind is = absurd kind
-appending_is (c.Prepare tx extra) rec kind is = absurd kind
-appending_is (c.Commit tx) rec kind is = absurd kind
-appending_is (c.Rollback tx) rec kind is = absurd kind
+-- whether there is a record doesn't depend on the number in it, nor does its length
+pub no_record : (command : Command) (n : ℕ) → record_of command n ≡ None → record_of command 0 ≡ None
+no_record c.Begin n is = refl
+no_record c.Flush n is = refl
+no_record (c.Add id user_type body) n is = absurd cc
+no_record (c.Update id user_type body) n is = absurd cc
+no_record (c.Delete id) n is = absurd cc
+no_record (c.AddTx tx id user_type body) n is = absurd cc
+no_record (c.UpdateTx tx id user_type body) n is = absurd cc
+no_record (c.DeleteTx tx id body) n is = absurd cc
+no_record (c.Prepare tx extra) n is = absurd cc
+no_record (c.Commit tx) n is = absurd cc
+no_record (c.Rollback tx) n is = absurd cc

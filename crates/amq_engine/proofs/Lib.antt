@@ -8,7 +8,7 @@ pub mod Receipts
 pub mod History
 pub mod Sound
 pub mod Flushing
-pub mod Commands
+pub mod Commanding
 pub mod Accepting
 pub mod Recovering
 pub mod Begun

@@ -9,7 +9,7 @@ use Rattle.std.specs.Cmp.Lexicographic.{slice_cmp}
 use Rattle.std.specs.Int.{w32, w64, from_be_bytes}
 use Rattle.std.proofs.lemmas.List.{take_at, drop_at, drop-drop, drop-take, take_all, length-append, take-take, take-append-drop, take-map, drop-map, map-append}
 use Rattle.std.proofs.lemmas.Nat.{from_be_bytes-to_be_bytes_4, from_be_bytes-to_be_bytes_8}
-use Rattle.std.proofs.lemmas.List.Elements.{All-take, All-head}
+use Rattle.std.proofs.lemmas.List.Elements.{All-take, All-head, All-cons}
 use Rattle.amq_model.specs.declared.config.Config.{Config}
 use Rattle.amq_model.specs.declared.record.Record.{Record}
 use Rattle.amq_model.specs.declared.record.Record.TheVariants as r
@@ -17,12 +17,14 @@ use Rattle.amq_model.specs.declared.record.Placed.{Placed}
 use Rattle.amq_model.specs.RecordAt.{Spot, RecordAt, whole_len, long, word}
 use Rattle.amq_model.specs.Scan.{IsScan}
 use Rattle.amq_model.specs.Effect.{result_of}
-use Rattle.amq_model.specs.Kept.{IsPart, IsKept, IsWhole, closing_tx}
+use Rattle.amq_model.specs.Kept.{IsPart, IsKept, IsWhole}
+use Rattle.amq_model.specs.Legal.{AreLegalFrom, AreLegal}
+use Rattle.amq_tx.specs.State.{TxState}
+use Rattle.amq_tx.proofs.WholeKept.{left_is_whole}
 use Rattle.amq_model.specs.Files.{FileName, Files, File, Image, IsPending, IsTorn, IsFileImage, IsImage, IsReading}
 use Rattle.amq_model.specs.Directory.{FileOf, file_of, files_by_name, data_files, by_id, bytes_of, fault_of, first_of_them, shared, SaysControl, IsJoined, Loads, placed}
 use Rattle.amq_model.specs.Names.{is_data, same, control_name}
 use Rattle.amq_model.specs.Crash.{NoFalseRecord, IsFoundIn}
-use Rattle.amq_model.specs.Plain.{IsPlain}
 use Rattle.amq_model.specs.Headline.{LoadsKept, RecoversSince}
 use Rattle.amq_model.specs.Calls.{Past, counted}
 use Rattle.amq_model.specs.Configs.{IsConfig}
@@ -39,12 +41,12 @@ use Rattle.amq_scan.proofs.Written.{scan_of_written, spots_more, torn_written}
 use Rattle.amq_record.proofs.Lengths.{length_word, length_long}
 use Rattle.amq_engine.specs.OneFile.{header_of, placed_in, Holds, IsFresh}
 use Rattle.amq_engine.specs.declared.tail.Tail.{Tail}
-use Rattle.amq_engine.specs.Engine.{data_name, temporary_name, IsPlainItem, MayHold, AreKept, IsTold, IsValid}
+use Rattle.amq_engine.specs.Engine.{data_name, temporary_name, IsNewItem, MayHold, AreKept, IsTold, IsValid}
 use Rattle.amq_engine.specs.Lists.{Lists, with_step, with_receipt}
 use Rattle.amq_model.specs.declared.history.Step.{Step}
 use Rattle.amq_engine.specs.Receipts.{FollowUpTo, AreInOrder, EndsWith, IsLastCount, IsCrashSafe}
 use Rattle.amq_engine.specs.declared.chronicle.Receipted.{Receipted}
-use Rattle.amq_engine.proofs.History.{all_plain, length-placed}
+use Rattle.amq_engine.proofs.History.{length-placed}
 use Rattle.amq_engine.proofs.Sound.{header_long}
 
 -- ---- parts
@@ -62,26 +64,10 @@ part_further (x ∷ xs) [] more p = absurd p
 part_further (x ∷ xs) (y ∷ ys) more (inl p) = inl (p.0, part_further xs ys more p.1)
 part_further (x ∷ xs) (y ∷ ys) more (inr p) = inr (part_further (x ∷ xs) ys more p)
 
--- ---- whole transactions
-
-no_closing : (rec : Record) → IsPlain rec → closing_tx rec ≡ None
-no_closing (r.Add id user_type body) is = refl
-no_closing (r.Update id user_type body) is = refl
-no_closing (r.Delete id) is = refl
-no_closing (r.AddTx tx id user_type body) is = absurd is
-no_closing (r.UpdateTx tx id user_type body) is = absurd is
-no_closing (r.DeleteTx tx id body) is = absurd is
-no_closing (r.Prepare tx count extra) is = absurd is
-no_closing (r.Commit tx count) is = absurd is
-no_closing (r.Rollback tx) is = absurd is
-
-none_if : (o : Option ℕ) (P : ℕ → Type 0) → o ≡ None → IfSome o P
-none_if None P is = tt
-none_if (Some x) P is = absurd cc
-
--- records of no transaction close none
-plain_whole : (base history kept : List Placed) → All (λ p. IsPlain p.rec) history → IsWhole base history kept
-plain_whole base history kept all = λ k h p in_kept in_history sound. none_if (closing_tx p.rec) _ (no_closing p.rec (all_has (λ p. IsPlain p.rec) history all p (get_has history h p in_history)))
+-- they all stand in the one file
+one_file : (ss : List Spot) → All (λ p. p.file ≡ 1) (map_of (placed 1) ss)
+one_file [] = λ k d lt. absurd (omega (arith, lt))
+one_file (s ∷ ss) = All-cons (λ p. p.file ≡ 1) (placed 1 s) (map_of (placed 1) ss) refl (one_file ss)
 
 -- ---- the header
 
@@ -158,8 +144,8 @@ module _ (header : List ℕ) (len d : ℕ) (history : List Item) (s : Files) (le
   pub reads_scan : IsScan h.file.bytes 1 2 (spots_from 2 16 (take h.put history))
   reads_scan = subst (λ (bs : List ℕ). IsScan bs 1 2 (spots_from 2 16 (take h.put history))) (sym h.bytes) (scan_of_written 1 2 header h.fill (take h.put history) headed (All-take (IsItem 2) h.put history items) h.filled)
 
-  pub torn_kept : All (λ p. IsPlain p.rec) (placed_in 1 history) → All (Contains (spots_from 2 16 (take h.put history))) spots → IsKept [] (placed_in 1 history) d (map_of (placed 1) spots)
-  torn_kept plain none_false =
+  pub torn_kept : (config : Config) (steps : List Step) → AreLegalFrom [] config [] steps → history_of steps ≡ placed_in 1 history → All (Contains (spots_from 2 16 (take h.put history))) spots → IsKept [] (placed_in 1 history) d (map_of (placed 1) spots)
+  torn_kept config steps legal told none_false =
       let front : List Item = take h.put history in
       let old : List Item = take d history in
       let new : List Item = drop d front in
@@ -182,15 +168,18 @@ module _ (header : List ℕ) (len d : ℕ) (history : List Item) (s : Files) (le
         counted = omega (arith, h.ahead, h.most, length-placed history);
         front = ap (map_of f) r.1 ∙ map-append f (spots_from 2 16 old) r.0 ∙ ap (λ (l : List Placed). l ++ rest) (sym durable);
         some = subst (IsPart rest) (sym rest_is) (part_further rest (map_of f (spots_from 2 (end_from 2 16 old) new)) (map_of f (spots_from 2 (end_from 2 (end_from 2 16 old) new) more)) (part_map f r.0 (spots_from 2 (end_from 2 16 old) new) r.2));
-        whole = plain_whole [] (placed_in 1 history) (map_of f spots) plain;
+        whole = subst (λ (ps : List Placed). IsWhole [] ps (map_of f spots)) told
+            (left_is_whole [] config steps (map_of f (spots_from 2 16 old)) (map_of f (spots_from 2 (end_from 2 16 old) new)) (map_of f (spots_from 2 (end_from 2 (end_from 2 16 old) new) more)) rest (map_of f spots) 1 legal
+            (told ∙ sym (take-append-drop d (map_of f all)) ∙ ap (λ (l : List Placed). l ++ drop d (map_of f all)) durable ∙ ap (λ (l : List Placed). map_of f (spots_from 2 16 old) ++ l) rest_is)
+            (one_file (spots_from 2 (end_from 2 16 old) new)) (ap (map_of f) r.1 ∙ map-append f (spots_from 2 16 old) r.0) (part_map f r.0 (spots_from 2 (end_from 2 16 old) new) r.2));
       }
 
 -- ---- the image of a directory with the one file
 
-items_of : (history : List Item) → All IsPlainItem history → All (IsItem 2) history
+items_of : (history : List Item) → All IsNewItem history → All (IsItem 2) history
 items_of history all = λ k x lt. (all k x lt).item
 
-module _ (config : Config) (low : config.user_version < 2 ^ 32) (short : config.file_size ≤ 268435456) (d : ℕ) (history : List Item) (items : All IsPlainItem history) (s : Files) (reading image : Image) (reads : IsReading s reading) (left : IsImage s image) (none_false : NoFalseRecord reading image) where
+module _ (config : Config) (low : config.user_version < 2 ^ 32) (short : config.file_size ≤ 268435456) (d : ℕ) (history : List Item) (steps : List Step) (legal : AreLegalFrom [] config [] steps) (told : history_of steps ≡ placed_in 1 history) (items : All IsNewItem history) (s : Files) (reading image : Image) (reads : IsReading s reading) (left : IsImage s image) (none_false : NoFalseRecord reading image) where
   abbrev pub head : List ℕ
   head = header_of config.user_version 1
 
@@ -266,7 +255,7 @@ module _ (config : Config) (low : config.user_version < 2 ^ 32) (short : config.
     pub loads : LoadsKept [] (placed_in 1 history) d config.user_version image
     loads = record {
       kept = map_of (placed 1) spots;
-      is = torn_kept head config.file_size d history s bytes spots (header_long config.user_version 1) (items_of history items) h torn scan (all_plain history items) found_all;
+      is = torn_kept head config.file_size d history s bytes spots (header_long config.user_version 1) (items_of history items) h torn scan config steps legal told found_all;
       loads = subst (λ (es : List (FileName × List ℕ)). Loads es config.user_version (result_of (map_of (placed 1) spots))) (sym one) (one_loads data_name head bytes 1 config.user_version spots data_named not_control (header_is config low) front fits scan);
     }
 
@@ -320,16 +309,16 @@ module _ (config : Config) (low : config.user_version < 2 ^ 32) (short : config.
 
 -- ---- receipts
 
-kept_recover : (config : Config) (durable : ℕ) (history : List Item) (base placed_records : List Placed) (past : Option Past) (rs : List Receipted) → IsConfig config → All IsPlainItem history → base ≡ [] → placed_records ≡ placed_in 1 history → AreKept past config durable history rs
+kept_recover : (config : Config) (durable : ℕ) (history : List Item) (steps : List Step) (legal : AreLegalFrom [] config [] steps) (told : history_of steps ≡ placed_in 1 history) (base placed_records : List Placed) (past : Option Past) (rs : List Receipted) → IsConfig config → All IsNewItem history → base ≡ [] → placed_records ≡ placed_in 1 history → AreKept past config durable history rs
     → (q : Receipted) → Has rs q → q.moment < 2 ^ 64 - 1 → RecoversSince past q.moment config.user_version base placed_records q.durable
-kept_recover config durable history base placed_records past [] ranges items none is kept q has low = absurd has
-kept_recover config durable history base placed_records past (r ∷ rs) ranges items none is kept q (inr has) low = kept_recover config durable history base placed_records past rs ranges items none is kept.1 q has low
-kept_recover config durable history base placed_records past (r ∷ rs) ranges items none is kept q (inl same) low =
+kept_recover config durable history steps legal told base placed_records past [] ranges items none is kept q has low = absurd has
+kept_recover config durable history steps legal told base placed_records past (r ∷ rs) ranges items none is kept q (inr has) low = kept_recover config durable history steps legal told base placed_records past rs ranges items none is kept.1 q has low
+kept_recover config durable history steps legal told base placed_records past (r ∷ rs) ranges items none is kept q (inl same) low =
     subst (λ (q : Receipted). q.moment < 2 ^ 64 - 1 → RecoversSince past q.moment config.user_version base placed_records q.durable) same
     (λ early. subst (λ (b : List Placed). RecoversSince past r.moment config.user_version b placed_records r.durable) (sym none)
     (subst (λ (ps : List Placed). RecoversSince past r.moment config.user_version [] ps r.durable) (sym is)
     (left_from (MayHold config r.durable history) (λ reading image. NoFalseRecord reading image → LoadsKept [] (placed_in 1 history) r.durable config.user_version image) r.moment past
-    (λ s reading image may reads left none_false. may_load config (omega (arith, ranges.user_version)) (omega (arith, ranges.file_size_most)) r.durable history items s reading image reads left none_false may)
+    (λ s reading image may reads left none_false. may_load config (omega (arith, ranges.user_version)) (omega (arith, ranges.file_size_most)) r.durable history steps legal told items s reading image reads left none_false may)
     (kept.0.1 early)))) low
 
 -- no receipt counts more than there is
@@ -339,16 +328,19 @@ kept_count config durable count history past (r ∷ rs) most kept q (inl same) =
 kept_count config durable count history past (r ∷ rs) most kept q (inr has) = kept_count config durable count history past rs most kept.1 q has
 
 -- the chronicle is crash safe
-pub told_safe : (past : Option Past) (moment : ℕ) (config : Config) (durable : ℕ) (history : List Item) (l : Lists) → IsConfig config → All IsPlainItem history → durable ≤ length history → IsTold past config durable history l → AreInOrder moment l.receipts → IsCrashSafe past moment config.user_version l
-told_safe past moment config durable history l ranges items most told order = record {
-  counted = all_by (λ (r : Receipted). r.durable ≤ length (history_of l.steps)) l.receipts (kept_count config durable (length (history_of l.steps)) history past l.receipts (omega (arith, most, length-placed history, ap length told.steps)) told.kept);
-  recovers = all_by (λ (r : Receipted). r.moment < 2 ^ 64 - 1 → RecoversSince past r.moment config.user_version l.base (history_of l.steps) r.durable) l.receipts (kept_recover config durable history l.base (history_of l.steps) past l.receipts ranges items told.base told.steps told.kept);
-  receipts = order;
-}
+pub told_safe : (past : Option Past) (moment : ℕ) (config : Config) (durable : ℕ) (history : List Item) (steps : List Step) (l : Lists) → IsConfig config → All IsNewItem history → history_of steps ≡ placed_in 1 history → AreLegal [] steps config → durable ≤ length history → IsTold past config durable history steps l
+    → AreInOrder moment l.receipts → IsCrashSafe past moment config.user_version l
+told_safe past moment config durable history steps l ranges items placed legal most told order =
+    let same : history_of l.steps ≡ placed_in 1 history = ap history_of told.same ∙ placed in
+    record {
+      counted = all_by (λ (r : Receipted). r.durable ≤ length (history_of l.steps)) l.receipts (kept_count config durable (length (history_of l.steps)) history past l.receipts (omega (arith, most, length-placed history, ap length same)) told.kept);
+      recovers = all_by (λ (r : Receipted). r.moment < 2 ^ 64 - 1 → RecoversSince past r.moment config.user_version l.base (history_of l.steps) r.durable) l.receipts (kept_recover config durable history steps legal.each placed l.base (history_of l.steps) past l.receipts ranges items told.base same told.kept);
+      receipts = order;
+    }
 
-pub valid_safe : (past : Option Past) (moment : ℕ) (lists : Option Lists) (room : ℕ) (config : Config) (is_live : ℕ → Bool) (t : Tail) → IsValid past moment lists room config is_live t → IfSome lists (IsCrashSafe past moment config.user_version)
-valid_safe past moment None room config is_live t v = tt
-valid_safe past moment (Some l) room config is_live t v = told_safe past moment config t.durable v.sound.history l v.ranges v.sound.items (omega (arith, v.sound.most, v.sound.count)) v.sound.told v.order
+pub valid_safe : (past : Option Past) (moment : ℕ) (lists : Option Lists) (room : ℕ) (config : Config) (table : TxState) (t : Tail) → IsValid past moment lists room config table t → IfSome lists (IsCrashSafe past moment config.user_version)
+valid_safe past moment None room config table t v = tt
+valid_safe past moment (Some l) room config table t v = told_safe past moment config t.durable v.sound.history v.sound.steps l v.ranges v.sound.items v.sound.placed v.sound.legal (omega (arith, v.sound.most, v.sound.count)) v.sound.told v.order
 
 -- one receipt more, of a flush that wrote and synced, or of none
 follow_more : (moment later count durable : ℕ) (r : Receipted) (rs : List Receipted) → durable ≤ count → moment ≤ later → (durable < count → later < 2 ^ 64 - 1 → moment + 2 ≤ later) → EndsWith durable r rs → FollowUpTo moment r rs

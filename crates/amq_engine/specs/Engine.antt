@@ -6,7 +6,7 @@ use Rattle.amq_model.specs.declared.record.Placed.{Placed}
 use Rattle.amq_model.specs.declared.command.Command.{Command}
 use Rattle.amq_model.specs.declared.command.Command.TheVariants as c
 use Rattle.amq_model.specs.declared.command.Reply.{Reply}
-use Rattle.amq_model.specs.declared.command.Reply.TheVariants.{Appended, Durable}
+use Rattle.amq_model.specs.declared.command.Reply.TheVariants.{Appended, Begun, Durable}
 use Rattle.amq_model.specs.declared.config.Config.{Config}
 use Rattle.amq_model.specs.declared.history.Answer.{Answer}
 use Rattle.amq_model.specs.declared.history.Answer.TheVariants.{Done, Refused}
@@ -20,11 +20,13 @@ use Rattle.amq_model.specs.declared.directory.OpenFault.TheVariants as o
 use Rattle.amq_model.specs.Calls.{Past, listing, fine, noted, counted}
 use Rattle.amq_model.specs.Files.{FileName, Files}
 use Rattle.amq_model.specs.Leaves.{Leaves, Unchanged, AllReads, HoldsSince, Told}
-use Rattle.amq_model.specs.Answers.{record_of, history_of, in_view, too_large, first_some}
+use Rattle.amq_model.specs.Answers.{record_of, history_of, limit, too_large, first_some}
 use Rattle.amq_model.specs.Legal.{AreLegal}
-use Rattle.amq_model.specs.Plain.{IsPlain}
 use Rattle.amq_model.specs.Configs.{IsConfig}
 pub use Rattle.amq_buffer.specs.Buffered.{Buffered, begun, is_due}
+use Rattle.amq_tx.specs.State.{TxState}
+use Rattle.amq_tx.specs.Follows.{Follows}
+use Rattle.amq_model.specs.declared.history.Step.{Step}
 use Rattle.amq_scan.specs.Written.{Item, IsItem, spelled, end_from}
 use Rattle.amq_engine.specs.declared.chronicle.Receipted.{Receipted}
 use Rattle.amq_engine.specs.declared.tail.Tail.{Tail}
@@ -118,23 +120,23 @@ with_put now (Some rec) t = record {
   durable = t.durable;
 }
 
--- whether the buffer has no room for what a command without a record, or with this one, does: it is written out first
-abbrev pub is_without_room : Buffered → Option Record → Bool
-is_without_room b None = true
-is_without_room b (Some rec) = nat_lt b.capacity (length b.bytes + len_of rec)
-
--- ready for a command without a record, or with this one
-abbrev pub readied : Option Record → Tail → Tail
-readied rec t = if is_without_room t.buffer rec then written_out t else t
+-- ready for a command that flushes first, or doesn't
+abbrev pub readied : Bool → Tail → Tail
+readied flushes_first t = if flushes_first then written_out t else t
 
 -- where the record stands that is put next
 abbrev pub placed_behind : Tail → Record → Placed
 placed_behind t rec = record { file = 1; place = end_of_tail t; compact = 0; rec = rec }
 
--- the reply to a command without a record, or with this one
-abbrev pub reply_of : Tail → Option Record → Reply
-reply_of t None = Durable t.durable
-reply_of t (Some rec) = Appended t.appended
+-- the reply to a command without a record, behind so many appends: by the number that it was given, if it was
+abbrev pub bare_reply : ℕ → Option ℕ → Reply
+bare_reply durable None = Durable durable
+bare_reply durable (Some tx) = Begun tx
+
+-- the reply to a command with this record, or without one
+abbrev pub reply_of : Tail → Option ℕ → Option Record → Reply
+reply_of t given None = bare_reply t.durable given
+reply_of t given (Some rec) = Appended t.appended
 
 -- ---- what is always so
 
@@ -145,10 +147,9 @@ data_name = codes "activemq-data-1.amq"
 abbrev pub temporary_name : FileName
 temporary_name = codes "activemq-data-1.amq.tmp"
 
--- an add, update or delete outside transactions, as it is written first
-pub record IsPlainItem (x : Item) : Type 0 where
+-- a record as it is written first
+pub record IsNewItem (x : Item) : Type 0 where
   pub item : IsItem 2 x
-  pub plain : IsPlain x.rec
   pub first : x.compact ≡ 0
 
 -- what each reading holds of a history of which so many records are durable: the one file, or, before the first, none
@@ -162,17 +163,20 @@ AreKept past config durable history [] = Unit {0}
 AreKept past config durable history (q ∷ qs) =
     ((q.durable ≤ durable) × (q.moment < 2 ^ 64 - 1 → HoldsSince past q.moment (MayHold config q.durable history))) × AreKept past config durable history qs
 
--- The chronicle's history is that of the engine, its steps are legal, and its receipts are kept.
-pub record IsTold (past : Option Past) (config : Config) (durable : ℕ) (history : List Item) (l : Lists) : Type 0 where
+-- the chronicle has the steps of the engine, and its receipts are kept
+pub record IsTold (past : Option Past) (config : Config) (durable : ℕ) (history : List Item) (steps : List Step) (l : Lists) : Type 0 where
   pub base : l.base ≡ []
-  pub steps : history_of l.steps ≡ placed_in 1 history
-  pub legal : AreLegal l.base l.steps config
+  pub same : l.steps ≡ steps
   pub kept : AreKept past config durable history l.receipts
 
--- what is so of a journal whose history goes on in the buffer
-pub record IsSound (past : Option Past) (lists : Option Lists) (receipt_room : ℕ) (config : Config) (is_live : ℕ → Bool) (tail : Tail) : Type 0 where
+-- what is so of a journal whose history goes on in the buffer: its steps are legal, and the table is that of the steps
+pub record IsSound (past : Option Past) (lists : Option Lists) (receipt_room : ℕ) (config : Config) (table : TxState) (tail : Tail) : Type 0 where
   pub history : List Item
-  pub items : All IsPlainItem history
+  pub steps : List Step
+  pub items : All IsNewItem history
+  pub placed : history_of steps ≡ placed_in 1 history
+  pub legal : AreLegal [] steps config
+  pub follows : Follows table [] steps
   pub size_least : 64 ≤ config.file_size
   pub size_most : config.file_size ≤ 268435456
   pub capacity : tail.buffer.capacity ≡ config.buffer_size
@@ -180,17 +184,16 @@ pub record IsSound (past : Option Past) (lists : Option Lists) (receipt_room : �
   pub first : (tail.buffer.since ≡ None) ↔ (tail.buffer.bytes ≡ [])
   pub count : tail.appended ≡ length history
   pub most : tail.durable ≤ tail.appended
-  pub ids : (id : ℕ) → is_live id ≡ in_view (placed_in 1 history) None id
   pub reads_now : AllReads past (Holds data_name (header_of config.user_version 1) 1 config.file_size tail.durable history)
   pub buffered : tail.buffer.bytes ≡ spelled 2 1 (drop tail.durable history)
   pub place : tail.end ≡ end_from 2 16 (take tail.durable history)
   pub fits : end_of_tail tail ≤ config.file_size
   pub room : (tail.buffer.bytes ≡ [] → ⊥) → 1 ≤ receipt_room
-  pub told : IfSome lists (IsTold past config tail.durable history)
+  pub told : IfSome lists (IsTold past config tail.durable history steps)
 
 -- the same, with the range of the parameters, and receipts in order, the last of which counts what is durable
-pub record IsValid (past : Option Past) (moment : ℕ) (lists : Option Lists) (receipt_room : ℕ) (config : Config) (is_live : ℕ → Bool) (tail : Tail) : Type 0 where
-  pub sound : IsSound past lists receipt_room config is_live tail
+pub record IsValid (past : Option Past) (moment : ℕ) (lists : Option Lists) (receipt_room : ℕ) (config : Config) (table : TxState) (tail : Tail) : Type 0 where
+  pub sound : IsSound past lists receipt_room config table tail
   pub ranges : IsConfig config
   pub order : IfSome lists (λ l. AreInOrder moment l.receipts)
   pub last : IfSome lists (λ l. IsLastCount tail.durable l.receipts)
@@ -204,40 +207,33 @@ pub record IsChronicle (past : Option Past) (moment : ℕ) (config : Config) (ap
 
 -- ---- commands
 
--- the id of a command of no transaction, if it has one
-abbrev pub command_id : Command → ℕ
-command_id (c.Add id user_type body) = id
-command_id (c.Update id user_type body) = id
-command_id (c.Delete id) = id
-command_id _ = 0
-
--- whether an id is live after it, if it was before
-abbrev pub is_live_after : Command → ℕ → Bool → Bool
-is_live_after (c.Add id user_type body) q before = before || id == q
-is_live_after (c.Update id user_type body) q before = before || id == q
-is_live_after (c.Delete id) q before = if id == q then false else before
-is_live_after _ q before = before
-
--- refusals 6 and 7, where it is known whether the id is live
-abbrev pub id_refused : Bool → Command → Option Refusal
-id_refused is_live (c.Add id user_type body) = if is_live then Some (r.AlreadyLive id) else None
-id_refused is_live (c.Update id user_type body) = if is_live then None else Some (r.NoRecord id)
-id_refused is_live (c.Delete id) = if is_live then None else Some (r.NoRecord id)
-id_refused is_live _ = None
-
 -- the file's rest is shorter than the record
 abbrev pub full : Config → ℕ → Command → Option Refusal
 full config end command = elim (record_of command 0) [ None ↦ None | Some rec ↦ (if nat_lt (config.file_size - end) (len_of rec) then Some (r.FileFull (len_of rec) (config.file_size - end)) else None) ]
 
--- the refusal of a command of no transaction where the last append ends at `end`
-abbrev pub refused : Config → Bool → ℕ → Command → Option Refusal
-refused config is_live end command = first_some (too_large config command ∷ id_refused is_live command ∷ full config end command ∷ [])
+-- the refusal of a record of this length, if it is above the limit
+abbrev pub too_long : Config → Option ℕ → Option Refusal
+too_long config None = None
+too_long config (Some len) = if nat_lt (limit config) len then Some (r.TooLarge len (limit config)) else None
 
--- a refusal that depends on the command, of an engine that takes commands of no transaction
+-- the refusal of a record of this length, if no more than this is left of the file
+abbrev pub over : ℕ → Option ℕ → Option Refusal
+over left None = None
+over left (Some len) = if nat_lt left len then Some (r.FileFull len left) else None
+
+-- the refusal of a command where the last append ends at `end`, by what the ids and transactions refuse of it
+abbrev pub refused : Config → Option Refusal → ℕ → Command → Option Refusal
+refused config by_table end command = first_some (too_large config command ∷ by_table ∷ full config end command ∷ [])
+
+-- a refusal that depends on the command
 abbrev pub IsCommandRefusal : Refusal → Type 0
 IsCommandRefusal (r.TooLarge len limit) = Unit {0}
+IsCommandRefusal (r.NoTx tx) = Unit {0}
+IsCommandRefusal (r.TxPrepared tx) = Unit {0}
+IsCommandRefusal (r.Held id tx) = Unit {0}
 IsCommandRefusal (r.AlreadyLive id) = Unit {0}
 IsCommandRefusal (r.NoRecord id) = Unit {0}
+IsCommandRefusal (r.TxNumbersSpent highest) = Unit {0}
 IsCommandRefusal (r.FileFull len left) = Unit {0}
 IsCommandRefusal _ = ⊥
 
@@ -265,24 +261,30 @@ pub record Notes (seat number : ℕ) (command : Command) (result : Result Reply 
   pub placed : Option Placed
   pub is : new ≡ (if is_noted result then option_map (with_step (record { seat = seat; number = number; command = command; answer = answer_of result; placed = placed })) old else old)
 
--- the reply to a command of no transaction that is accepted behind so many appends
-abbrev pub reply_to : ℕ → Command → Reply
-reply_to appended c.Flush = Durable appended
-reply_to appended _ = Appended appended
+-- the reply to a command that is accepted behind so many appends; which number a Begin is given is what the steps say
+abbrev pub IsReply : ℕ → Command → Reply → Type 0
+IsReply appended c.Begin (Begun tx) = Unit {0}
+IsReply appended c.Begin _ = ⊥
+IsReply appended c.Flush reply = reply ≡ Durable appended
+IsReply appended _ reply = reply ≡ Appended appended
 
 -- it asks for a flush
 abbrev pub is_flush : Command → Bool
 is_flush c.Flush = true
 is_flush _ = false
 
--- the record doesn't fit behind the bytes that wait
-abbrev pub overflows : ℕ → ℕ → Option Record → Bool
-overflows capacity waiting None = false
-overflows capacity waiting (Some rec) = nat_lt capacity (waiting + len_of rec)
+-- the length of the record of a command, if it has one
+abbrev pub record_len : Command → Option ℕ
+record_len command = option_map len_of (record_of command 0)
 
--- whether a command that is accepted flushes first: it asks for that, or its record doesn't fit the buffer
+-- a record of this length doesn't fit behind the bytes that wait
+abbrev pub overflows : ℕ → ℕ → Option ℕ → Bool
+overflows capacity waiting None = false
+overflows capacity waiting (Some len) = nat_lt capacity (waiting + len)
+
+-- whether a command that is accepted flushes first: it asks for it, or its record doesn't fit the buffer
 abbrev pub flushes : ℕ → ℕ → Command → Bool
-flushes capacity waiting command = is_flush command || overflows capacity waiting (record_of command 0)
+flushes capacity waiting command = is_flush command || overflows capacity waiting (record_len command)
 
 -- ---- what calls leave
 
@@ -290,14 +292,14 @@ flushes capacity waiting command = is_flush command || overflows capacity waitin
 abbrev pub flushed : {D C : Type 0} → EngineOf D C → EngineOf D C
 flushed e = record e { durable = e.appended; waiting = 0; since = None }
 
--- one record more waits, where there is one
-abbrev pub with_record : {D C : Type 0} → Option Record → EngineOf D C → EngineOf D C
+-- one record more waits, of this length, where there is one
+abbrev pub with_record : {D C : Type 0} → Option ℕ → EngineOf D C → EngineOf D C
 with_record None e = e
-with_record (Some rec) e = record e { appended = e.appended + 1; waiting = e.waiting + len_of rec; since = begun e.clock e.since }
+with_record (Some len) e = record e { appended = e.appended + 1; waiting = e.waiting + len; since = begun e.clock e.since }
 
 -- behind a command that was accepted
 abbrev pub behind_command : {D C : Type 0} → Command → EngineOf D C → EngineOf D C
-behind_command command e = with_record (record_of command 0) (if flushes e.config.buffer_size e.waiting command then flushed e else e)
+behind_command command e = with_record (record_len command) (if flushes e.config.buffer_size e.waiting command then flushed e else e)
 
 -- the clock never goes back
 abbrev pub at_clock : {D C : Type 0} → ℕ → EngineOf D C → EngineOf D C
@@ -344,7 +346,7 @@ pub record IsBegun (past : Option Past) (moment : ℕ) (lists : Option Lists) (r
   pub last : IfSome lists (λ l. IsLastCount 0 l.receipts)
   pub reads_now : AllReads past (Holds data_name (header_of config.user_version 1) 1 config.file_size 0 [])
   pub room : 1 ≤ receipt_room
-  pub told : IfSome lists (IsTold past config 0 [])
+  pub told : IfSome lists (IsTold past config 0 [] [])
 
 -- nothing is told yet
 abbrev pub IsBlank : Lists → Type 0

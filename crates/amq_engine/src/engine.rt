@@ -3,25 +3,24 @@ ghost use Rattle.std.specs.Prelude.{◌≡◌, ◌⊎◌, ◌↔◌, ◌+◌, �
 ghost use Rattle.amq_model.specs.Configs.{IsConfig};
 ghost use Rattle.amq_model.specs.Calls.{counted};
 ghost use Rattle.amq_model.specs.Leaves.{Told};
-ghost use Rattle.amq_model.specs.Plain.{IsPlainCommand};
 ghost use Rattle.amq_model.specs.declared.refusal.DiskCall.{DiskCall};
 ghost use Rattle.amq_model.specs.Answers.{history_of};
 ghost use Rattle.amq_buffer.specs.Buffered.{is_due};
 ghost use Rattle.amq_engine.specs.OneFile.{IsEmpty, IsJournalFile};
 ghost use Rattle.amq_engine.specs.Receipts.{IsCrashSafe};
-ghost use Rattle.amq_engine.specs.Engine.{Notes, IsCommandAnswer, IsCommandRefusal, IsChronicle, IsBlank, IsUnopened, AreBegun, HasCome, HasOpenCause, HasCause, IsFlushRefusal, closed_after, durable_after, fault_refusal, closed_by, receipted, reply_to, flushes, flushed, behind_command, behind_tick, must_flush, at_clock, data_name};
+ghost use Rattle.amq_engine.specs.Engine.{Notes, IsCommandAnswer, IsCommandRefusal, IsChronicle, IsBlank, IsUnopened, AreBegun, HasCome, HasOpenCause, HasCause, IsFlushRefusal, closed_after, durable_after, fault_refusal, closed_by, receipted, IsReply, flushes, flushed, behind_command, behind_tick, must_flush, at_clock, data_name};
 
 use crate::chronicle::Chronicle;
+use crate::commands::{refusal_of, room_for};
 use crate::opening::begin;
-use crate::plain::{change_live, refusal_of, room_for};
-use crate::tail::{Tail, put_record, ready, write_out};
+use crate::tail::{FILE, Tail, put_record, ready, write_out};
 use amq_buffer::TimedBuffer;
 use amq_io::{Disk, DiskFault};
 use amq_model::{
     Answer, Command, Config, DiskCall, Items, LoadState, OpenFault, Refusal, Reply, Step,
 };
+use amq_tx::TxTable;
 use std::alloc::Global;
-use std::collections::HashSet;
 use std::marker::Model;
 
 /// Where the first record of a file stands.
@@ -29,7 +28,7 @@ const FIRST_PLACE: u64 = 16;
 
 /// The journal over one disk, owned by one thread.
 ///
-/// Until it moves to further files it has one, and takes commands of no transaction. Appends wait in a
+/// Until it moves to further files it has one. Appends wait in a
 /// buffer until they are flushed: when that is asked for, when the buffer has no room for the next one,
 /// or when the first of them is as old as the buffer's timeout.
 pub struct Engine<D: Disk, C: Chronicle> {
@@ -37,15 +36,15 @@ pub struct Engine<D: Disk, C: Chronicle> {
     disk: D,
     chronicle: C,
     config: Config,
-    live: HashSet<u64>,
+    table: TxTable,
     tail: Tail,
     clock: u64,
     closed: Option<DiskCall>,
 }
 
 impl<D: Disk, C: Chronicle> Model for Engine<D, C> {
-    ghost use Rattle.std.specs.Prelude.{◌==◌, length};
-    ghost use Rattle.std.specs.HashSet.{contains};
+    ghost use Rattle.std.specs.Prelude.{length};
+    ghost use Rattle.amq_tx.specs.Tables.{state_of};
     ghost use Rattle.amq_engine.specs.Engine.{EngineOf, engine_code, IsValid};
 
     ghost Value = { EngineOf D C };
@@ -54,7 +53,7 @@ impl<D: Disk, C: Chronicle> Model for Engine<D, C> {
 
     ghost view = { λ e. record { disk = e.disk; chronicle = e.chronicle; config = e.config; appended = e.tail.appended; durable = e.tail.durable; waiting = length e.tail.buffer.bytes; since = e.tail.buffer.since; clock = e.clock; closed = e.closed } };
 
-    ghost invariant = { λ e. IsValid (D.past e.disk) (D.moment e.disk) (C.lists e.chronicle) (C.receipt_room e.chronicle) e.config (contains (◌==◌) e.live) e.tail };
+    ghost invariant = { λ e. IsValid (D.past e.disk) (D.moment e.disk) (C.lists e.chronicle) (C.receipt_room e.chronicle) e.config (state_of e.table) e.tail };
 }
 
 /// Why a journal wasn't opened, with its disk and its chronicle.
@@ -109,6 +108,16 @@ impl<D: Disk, C: Chronicle> Engine<D, C> {
         ensures come { IfOk result (λ e. IfSome (C.lists e.0.chronicle) (HasCome config (D.moment disk) (D.past disk) (D.past e.0.disk))) }
         ensures failed_come { IfErr result (λ e. IfSome (C.lists e.chronicle) (HasCome config (D.moment disk) (D.past disk) (D.past e.disk))) }
     {
+        let table = match TxTable::new(alloc, Vec::new(alloc), Vec::new(alloc), 0) {
+            Ok(table) => table,
+            Err(_) => {
+                return Err(OpenFailed {
+                    disk,
+                    chronicle,
+                    fault: OpenFault::NoMemory,
+                });
+            }
+        };
         let buffer = match TimedBuffer::new(alloc, config.buffer_size, config.buffer_timeout) {
             Ok(buffer) => buffer,
             Err(_) => {
@@ -135,7 +144,7 @@ impl<D: Disk, C: Chronicle> Engine<D, C> {
             disk,
             chronicle,
             config,
-            live: HashSet::new(alloc),
+            table,
             tail: Tail {
                 buffer,
                 end: FIRST_PLACE,
@@ -148,17 +157,16 @@ impl<D: Disk, C: Chronicle> Engine<D, C> {
         Ok((engine, state))
     }
 
-    /// Answers a command of no transaction.
+    /// Answers a command.
     ///
     /// Its record waits in the buffer until a flush; where it doesn't fit there, what waits is flushed
-    /// first. The first refusal of `Closed`, `TooLarge`, `AlreadyLive`, `NoRecord` and `FileFull` that
-    /// holds is the answer, before any disk call. After `NoMemory` the journal is as it was, and the
+    /// first. The first refusal of `Closed`, `TooLarge`, `NoTx`, `TxPrepared`, `Held`, `AlreadyLive`,
+    /// `NoRecord`, `TxNumbersSpent` and `FileFull` that holds is the answer, before any disk call. After `NoMemory` the journal is as it was, and the
     /// command can be given again.
     pub fn command(&mut self, seat: u32, number: u64, command: Command) -> Result<Reply, Refusal>
-        requires kind { IsPlainCommand command }
         requires producer { 0 < seat }
         ensures noted { Notes seat number command result (receipted (is_ok result && flushes self.old.config.buffer_size self.old.waiting command && is_some self.old.since) self.old.appended (D.moment self.new.disk) (C.lists self.old.chronicle)) (C.lists self.new.chronicle) }
-        ensures reply { IfOk result (λ reply. reply ≡ reply_to self.old.appended command) }
+        ensures reply { IfOk result (IsReply self.old.appended command) }
         ensures ok { OnOk result (self.new ≡ record (behind_command command self.old) { disk = self.new.disk; chronicle = self.new.chronicle }) }
         ensures err { OnErr result (self.new ≡ record self.old { disk = self.new.disk; chronicle = self.new.chronicle; closed = closed_after result self.old.closed }) }
         ensures answers { IfErr result IsCommandAnswer }
@@ -173,12 +181,12 @@ impl<D: Disk, C: Chronicle> Engine<D, C> {
         if let Some(fault) = self.closed {
             return Err(Refusal::Closed { fault });
         }
-        let rec = match room_for(self.alloc, &mut self.chronicle, &mut self.live, &command) {
+        let rec = match room_for(self.alloc, &mut self.chronicle, &mut self.table, &command) {
             Ok(rec) => rec,
             Err(_) => return Err(Refusal::NoMemory),
         };
         let end = self.tail.end + self.tail.buffer.bytes().len() as u64;
-        if let Some(refusal) = refusal_of(&self.config, &self.live, end, &command, &rec) {
+        if let Some(refusal) = refusal_of(&self.config, &self.table, end, &command, &rec) {
             self.chronicle.step(Step {
                 seat,
                 number,
@@ -188,11 +196,17 @@ impl<D: Disk, C: Chronicle> Engine<D, C> {
             });
             return Err(refusal);
         }
-        if let Err(fault) = ready(&mut self.disk, &mut self.chronicle, &mut self.tail, &rec) {
+        if let Err(fault) = ready(
+            &mut self.disk,
+            &mut self.chronicle,
+            &mut self.tail,
+            &command,
+            &rec,
+        ) {
             return Err(close_after(&mut self.closed, fault));
         }
-        let (reply, placed) = put_record(&mut self.tail, self.clock, rec);
-        change_live(&mut self.live, &command);
+        let given = self.table.apply(&command, FILE);
+        let (reply, placed) = put_record(&mut self.tail, self.clock, given, rec);
         self.chronicle.step(Step {
             seat,
             number,
@@ -275,7 +289,7 @@ impl<D: Disk, C: Chronicle> Engine<D, C> {
             disk,
             chronicle,
             config: _,
-            live: _,
+            table: _,
             tail: _,
             clock: _,
             closed: _,

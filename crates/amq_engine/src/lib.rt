@@ -2,18 +2,18 @@
 //!
 //! `chronicle` has the trait through which an engine tells what it did, and the chronicles `Kept` and
 //! `Unkept`. `engine` has the engine itself: opening, commands, flushing, ticking, closing. Below it
-//! stand `plain`, what refuses a command of no transaction and what it does; `tail`, the end of the
+//! stand `commands`, the records of commands and what refuses them; `tail`, the end of the
 //! file in use with the buffer behind it; `opening` and `prepare`, which make a file that is durable
 //! before it has its name; `put`, which puts bytes behind the last and syncs them; `header`, the 16
 //! bytes at a file's head; and `log`, a list with room made ahead.
 #![tactic(auto)]
 
 mod chronicle;
+mod commands;
 mod engine;
 mod header;
 mod log;
 mod opening;
-mod plain;
 mod prepare;
 mod put;
 mod tail;

@@ -10,7 +10,7 @@ mod reports;
 mod words;
 
 pub use records::record_lines;
-pub use replies::push_answer;
+pub use replies::{push_answer, push_bound};
 pub use reports::report;
 
 #[cfg(test)]

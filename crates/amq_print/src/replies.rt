@@ -1,5 +1,5 @@
 ghost use Rattle.std.specs.Prelude.{◌≡◌, ◌++◌, OnOk, OnErr};
-ghost use Rattle.amq_model.specs.Texts.{reply_line, refusal_line, disk_call_name, phase_name};
+ghost use Rattle.amq_model.specs.Texts.{reply_line, refusal_line, bound_line, disk_call_name, phase_name};
 
 use crate::words::Word::{Number, Text};
 use crate::words::push_line;
@@ -20,6 +20,16 @@ pub fn push_answer(out: &mut Vec<u8>, answer: &Answer) -> Result<(), NoMemory>
         }
         Answer::Refused(refusal) => push_refusal(out, refusal),
     }
+}
+
+/// Appends the line of a label that was bound to a transaction's number.
+///
+/// After `NoMemory` the text is as before.
+pub fn push_bound(out: &mut Vec<u8>, tx: u64) -> Result<(), NoMemory>
+    ensures ok { OnOk result (out.new.items ≡ out.old.items ++ bound_line tx) }
+    ensures err { OnErr result (out.new.items ≡ out.old.items) }
+{
+    push_line(out, &[Text("bound"), Number(tx)])
 }
 
 /// Appends the line of a refusal.

@@ -1,4 +1,4 @@
-use crate::{push_answer, record_lines, report};
+use crate::{push_answer, push_bound, record_lines, report};
 use amq_model::{
     Answer, Bytes, DataFile, DiskCall, Entry, EntryKind, InDoubt, Items, LoadState, Name, Phase,
     Placed, Record, Refusal, Removal, Reply,
@@ -31,8 +31,9 @@ fn reply_lines(rt: HostRuntime) -> Result<(), Fail> {
     for answer in &answers {
         push_answer(&mut out, answer)?;
     }
+    push_bound(&mut out, 5)?;
     let expected =
-        "ok 0\ntx 1\nok 1\nrefused Held 1 1\nrefused NoRecord 2\ndurable 18446744073709551615\n";
+        "ok 0\ntx 1\nok 1\nrefused Held 1 1\nrefused NoRecord 2\ndurable 18446744073709551615\nbound 5\n";
     assert_eq!(rt; out.as_slice(), expected.as_bytes());
     Ok(())
 }

@@ -1,42 +1,38 @@
-use Rattle.std.proofs.Common.{◌≡◌, ◌+◌, ◌++◌, ◌∷◌, [], refl, sym, ap, subst, ◌∙◌, rules}
-use Rattle.std.specs.Prelude.{◌&&◌, is_some}
+use Rattle.std.proofs.Common.{ℕ, [], ◌∷◌, ◌++◌, Option, None, Some, refl, sym, ap, subst, ◌∙◌}
+use Rattle.std.specs.Prelude.{Err, if◌then◌else◌}
+use Rattle.amq_model.specs.Names.{same}
 use Rattle.amq_model.specs.declared.script.Line.{Line}
-use Rattle.amq_model.specs.declared.history.Answer.TheVariants.{Done, Refused}
+use Rattle.amq_model.specs.declared.script.Line.TheVariants.{Bind, Tick}
+use Rattle.amq_model.specs.declared.history.Answer.{Answer}
+use Rattle.amq_model.specs.declared.history.Answer.TheVariants.{Done}
 use Rattle.amq_model.specs.declared.command.Reply.TheVariants.{Durable}
-use Rattle.amq_engine.specs.Engine.{flushes}
-use Rattle.std.specs.Prelude.{Err}
-use Rattle.amq_cli.specs.Playing.{IsPlaying}
-use Rattle.amq_cli.proofs.Ending.{last_of_command, last_of_tick, still_open}
-use Rattle.amq_cli.proofs.Answering.{built_kind, command_accepted, command_refused, tick_answered}
+use Rattle.amq_cli.specs.Labelled.{number_in}
+use Rattle.amq_cli.specs.Playing.{IsPlaying, AreNumbersOf}
+use Rattle.amq_cli.proofs.Playing.{labels_behind}
+use Rattle.amq_cli.proofs.Ending.{last_of_tick, still_open}
+use Rattle.amq_cli.proofs.Answering.{bound, tick_answered}
 use Rattle.amq_cli.proofs.replay.answer_line.Goals as goal
 
-pub returns-in-Ok-clause-played : goal.returns-in-Ok-clause-played
-returns-in-Ok-clause-played g c answered was =
-    let old = c.args.engine.now in
-    let new = c.command.new.self in
-    let timeout = old.config.buffer_timeout in
-    let played = command_accepted timeout answered c.args.number.now old new was c.in-Plain.command c.in-Ok.reply (flushes old.config.buffer_size old.waiting c.in-Plain.command && is_some old.since) (g.D.Disk.moment new.disk)
-    (built_kind c.args.line c.in-Plain.command c.requires.built c.in-Plain.is) c.in-Ok.ensures.reply c.in-Ok.ensures.ok c.in-Ok.ensures.noted c.command.ensures.chronicle.last in
-    subst (λ (line : Line). IsPlaying timeout (answered ++ (line, Done c.in-Ok.reply) ∷ []) (c.args.number.now + 1) new) (sym c.in-Plain.is) played
-
-pub returns-in-Err-clause-played : goal.returns-in-Err-clause-played
-returns-in-Err-clause-played g c answered was =
-    let old = c.args.engine.now in
-    let new = c.command.new.self in
-    let timeout = old.config.buffer_timeout in
-    let played = command_refused timeout answered c.args.number.now old new was c.in-Plain.command c.in-Err.refusal (g.D.Disk.moment new.disk) (search rules) (search rules) c.in-Err.ensures.noted in
-    subst (λ (line : Line). IsPlaying timeout (answered ++ (line, Refused c.in-Err.refusal) ∷ []) (c.args.number.now + 1) new) (sym c.in-Plain.is) played
+pub returns-in-Bind-clause-played : goal.returns-in-Bind-clause-played
+returns-in-Bind-clause-played g c answered labelled was =
+    let e = c.args.engine.now in
+    let old = number_in c.args.labels.now in
+    let new = number_in c.set.new.self in
+    let name = c.in-Bind.label in
+    let tx = c.in-Bind.tx in
+    let numbers = labels_behind old new answered (Bind name tx, None) labelled (λ other. c.set.ensures other ∙ ap (λ (n : ℕ). if same name other then tx else n) (c.reserve.ensures.same other)) in
+    subst (λ (line : Line). IsPlaying e.config.buffer_timeout (answered ++ (line, None) ∷ []) c.args.number.now e × AreNumbersOf new (answered ++ (line, None) ∷ [])) (sym c.in-Bind.is) (bound e.config.buffer_timeout answered c.args.number.now e name tx was, numbers)
 
 pub returns-in-Ok-tick-clause-played : goal.returns-in-Ok-tick-clause-played
-returns-in-Ok-tick-clause-played g c answered was =
+returns-in-Ok-tick-clause-played g c answered labelled was =
     let old = c.args.engine.now in
     let new = c.tick.new.self in
     let timeout = old.config.buffer_timeout in
+    let answer : Option Answer = Some (Done (Durable c.in-Ok-tick.count)) in
+    let labels = number_in c.args.labels.now in
     let played = tick_answered timeout answered c.args.number.now old new was c.in-Tick.now c.in-Ok-tick.count (g.D.Disk.moment new.disk) refl c.in-Ok-tick.ensures.count c.in-Ok-tick.ensures.ok c.in-Ok-tick.ensures.receipt c.tick.ensures.chronicle.last in
-    subst (λ (line : Line). IsPlaying timeout (answered ++ (line, Done (Durable c.in-Ok-tick.count)) ∷ []) c.args.number.now new) (sym c.in-Tick.is) played
+    let numbers = labels_behind labels labels answered (Tick c.in-Tick.now, answer) labelled (λ other. refl) in
+    subst (λ (line : Line). IsPlaying timeout (answered ++ (line, answer) ∷ []) c.args.number.now new × AreNumbersOf labels (answered ++ (line, answer) ∷ [])) (sym c.in-Tick.is) (played, numbers)
 
-pub returns-in-Err-2-clause-last : goal.returns-in-Err-2-clause-last
-returns-in-Err-2-clause-last g c = last_of_command c.in-Err.refusal (search rules) (λ call is. still_open c.args.engine.now.closed call c.requires.open ((c.command.ensures.closed call).0 (c.in-Err.is ∙ ap Err is)))
-
-pub returns-in-Err-tick-clause-last : goal.returns-in-Err-tick-clause-last
-returns-in-Err-tick-clause-last g c = last_of_tick c.in-Err-tick.refusal c.in-Err-tick.ensures.refusals (λ call is. still_open c.args.engine.now.closed call c.requires.open ((c.tick.ensures.closed call).0 (c.in-Err-tick.is ∙ ap Err is)))
+pub returns-in-Tick-clause-last : goal.returns-in-Tick-clause-last
+returns-in-Tick-clause-last g c = last_of_tick c.in-Err-tick.refusal c.in-Err-tick.ensures.refusals (λ call is. still_open c.args.engine.now.closed call c.requires.open ((c.tick.ensures.closed call).0 (c.in-Err-tick.is ∙ ap Err is)))

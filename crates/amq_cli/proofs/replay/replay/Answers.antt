@@ -1,13 +1,33 @@
-use Rattle.std.proofs.Common.{◌≡◌, ◌+◌, [], ◌∷◌, ◌++◌, All, sym, ap, subst, ◌∙◌, rules, arith}
+use Rattle.std.proofs.Common.{◌≡◌, [], ◌∷◌, ◌++◌, All, sym, ap, refl, subst, rules, arith}
+use Rattle.std.proofs.lemmas.Grind.{common_steps}
 use Rattle.std.specs.Prelude.{IsTrue, Err, IfErr, reverse, length}
 use Rattle.std.proofs.lemmas.List.{length-append}
 use Rattle.std.proofs.lemmas.List.Elements.{All-take}
-use Rattle.amq_model.specs.declared.script.Line.{Line}
 use Rattle.amq_cli.specs.Replay.{is_built, is_for_memory, HasEnded}
 use Rattle.amq_model.specs.Texts.{refusal_line}
+use Rattle.amq_cli.specs.Labelled.{number_in}
 use Rattle.amq_cli.specs.Playing.{HasPlayed}
-use Rattle.amq_cli.proofs.Ending.{one_taken, ended_more}
+use Rattle.amq_cli.proofs.Ending.{one_taken, ended_more, last_of_all, same_labels}
 use Rattle.amq_cli.proofs.replay.replay.Goals as goal
+
+pub loop-line-init : goal.loop-line-init
+loop-line-init g c =
+    let e = c.args.engine.now in
+    let text = c.args.text.now.items in
+    record {
+      built = search rules;
+      played = ([], grind (arith, common_steps), same_labels e.config.buffer_timeout [] (λ label. 0) (number_in c.new-labels.result) 1 e text c.new-labels.ensures c.requires.begun);
+      few = search rules;
+      unclosed = c.requires.open;
+      config = refl;
+      base = refl;
+      later = search rules;
+    }
+
+pub play_line-requires-clause-built : goal.play_line-requires-clause-built
+play_line-requires-clause-built g c =
+    let popped : c.loop-line.lines.items ≡ c.pop.new.self.items ++ c.in-Some.line ∷ [] = search rules in
+    last_of_all (λ line. IsTrue (is_built line)) c.pop.new.self.items c.in-Some.line (subst (All (λ line. IsTrue (is_built line))) popped c.loop-line.invariant.built)
 
 pub loop-line-preserved : goal.loop-line-preserved
 loop-line-preserved g c =
@@ -21,8 +41,8 @@ loop-line-preserved g c =
       played = (
         played.0 ++ line ∷ [],
         one_taken c.args.lines.items played.0 c.loop-line.lines.items c.pop.new.self.items line popped played.1,
-        subst (λ t. HasPlayed t (played.0 ++ line ∷ []) c.play_line.new.number c.play_line.new.engine c.play_line.new.text.items) timeout
-            (c.in_ok-play_line.ensures.played played.0 (subst (λ t. HasPlayed t played.0 c.loop-line.number c.loop-line.engine c.loop-line.text.items) (sym timeout) played.2)),
+        subst (λ t. HasPlayed t (played.0 ++ line ∷ []) (number_in c.play_line.new.labels) c.play_line.new.number c.play_line.new.engine c.play_line.new.text.items) timeout
+            (c.in_ok-play_line.ensures.played played.0 (subst (λ t. HasPlayed t played.0 (number_in c.loop-line.labels) c.loop-line.number c.loop-line.engine c.loop-line.text.items) (sym timeout) played.2)),
       );
       few = omega (arith, was.few, c.play_line.ensures.next, ap length popped, length-append c.pop.new.self.items (line ∷ []));
       unclosed = search rules;
@@ -40,7 +60,7 @@ returns-in_err-play_line-clause-ended g c =
     let timeout = ap (λ (k : _). k.buffer_timeout) was.config in
     let steps = c.play_line.new.engine.chronicle.steps.items in
     let receipts = c.play_line.new.engine.chronicle.receipts.items in
-    let ended = c.in_err-play_line.ensures.ended played.0 (subst (λ t. HasPlayed t played.0 c.loop-line.number c.loop-line.engine c.loop-line.text.items) (sym timeout) played.2) in
+    let ended = c.in_err-play_line.ensures.ended played.0 (subst (λ t. HasPlayed t played.0 (number_in c.loop-line.labels) c.loop-line.number c.loop-line.engine c.loop-line.text.items) (sym timeout) played.2) in
     let all = one_taken c.args.lines.items played.0 c.loop-line.lines.items c.pop.new.self.items line popped played.1 in
     let here = subst (λ ls. HasEnded c.args.engine.now.config.buffer_timeout ls steps receipts c.play_line.new.text.items (refusal_line c.in_err-play_line.field-0.0) (is_for_memory c.in_err-play_line.field-0.0)) all
     (ended_more c.args.engine.now.config.buffer_timeout (played.0 ++ line ∷ []) (reverse c.pop.new.self.items) steps receipts c.play_line.new.text.items _ _

@@ -2,6 +2,7 @@ use Rattle.std.proofs.Common.{◌≡◌, ◌+◌, ◌≤◌, ◌++◌, List, len
 use Rattle.std.specs.Prelude.{All, IsTrue, reverse}
 use Rattle.amq_model.specs.declared.script.Line.{Line}
 use Rattle.amq_cli.specs.Replay.{is_built}
+use Rattle.amq_cli.specs.Labelled.{number_in}
 use Rattle.amq_cli.specs.Playing.{HasPlayed}
 use Rattle.amq_cli.proofs.replay.replay.Given as goal
 
@@ -10,7 +11,7 @@ abbrev pub invariant-loop-line : goal.invariant-loop-line
 invariant-loop-line g l =
     record {
       built : All (λ line. IsTrue (is_built line)) l.lines.items;
-      played : (done : List Line) × (done ++ reverse l.lines.items ≡ l.fn.lines.items) × HasPlayed l.fn.engine.config.buffer_timeout done l.number l.engine l.text.items;
+      played : (done : List Line) × (done ++ reverse l.lines.items ≡ l.fn.lines.items) × HasPlayed l.fn.engine.config.buffer_timeout done (number_in l.labels) l.number l.engine l.text.items;
       few : l.number + length l.lines.items ≤ length l.fn.lines.items + 1;
       unclosed : l.engine.closed ≡ None;
       config : l.engine.config ≡ l.fn.engine.config;

@@ -1,6 +1,7 @@
-use Rattle.std.proofs.Common.{inr, sym, subst, rules}
+use Rattle.std.proofs.Common.{inr, [], sym, subst, rules}
 use Rattle.amq_model.specs.declared.config.Config.{Config}
-use Rattle.amq_cli.specs.Offline.{lists_of, HasRun, HasRunOn, HasText}
+use Rattle.amq_cli.specs.Offline.{lists_of, HasRunOn, IsLoadedState, IsEnding}
+use Rattle.amq_cli.specs.declared.status.Status.{Status}
 use Rattle.amq_cli.proofs.Reloading.{began}
 use Rattle.amq_cli.proofs.Recovering.{opened_so, come_nothing_new}
 use Rattle.amq_cli.proofs.Running.{begun_played, unopened_text, opening_ends}
@@ -19,7 +20,13 @@ returns-in-Ok-clause-run g c = λ done. record {
 }
 
 pub returns-in-Err-clause-text : goal.returns-in-Err-clause-text
-returns-in-Err-clause-text g c = unopened_text c.args.config.buffer_timeout _ c.args.lines.items (g.D.Disk.faults c.in-Err.field-0.disk) c.in-Err.field-0.chronicle.steps.items c.in-Err.field-0.chronicle.receipts.items c.args.text.now.items (search rules) c.requires.empty (search rules)
+returns-in-Err-clause-text g c =
+    let disk = c.in-Err.field-0.disk in
+    let kept = c.in-Err.field-0.chronicle in
+    let lines = c.args.lines.items in
+    let loaded = IsLoadedState (g.D.Disk.past disk) c.args.config.user_version kept.base kept.steps.items in
+    let ends = subst (λ (s : Status). IsEnding s loaded (g.D.Disk.faults disk) lines [] []) (sym c.status_of_opening.ensures) (opening_ends c.in-Err.field-0.fault loaded (g.D.Disk.faults disk) lines) in
+    unopened_text c.args.config.buffer_timeout c.status_of_opening.result loaded lines (g.D.Disk.faults disk) kept.steps.items kept.receipts.items c.args.text.now.items (search rules) c.requires.empty ends
 
 pub returns-in-Ok-clause-opened : goal.returns-in-Ok-clause-opened
 returns-in-Ok-clause-opened g c = inr (began c.run_on.result.2.base (g.D.Disk.past c.args.disk) c.run_on.ensures.base c.in-Ok.ensures.empty)

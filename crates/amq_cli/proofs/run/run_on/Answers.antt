@@ -1,4 +1,4 @@
-use Rattle.std.proofs.Common.{◌≡◌, inr, ℕ, List, [], sym, ap, subst, ◌∙◌, rules}
+use Rattle.std.proofs.Common.{◌≡◌, ◌⊎◌, inr, [], sym, ap, subst, ◌∙◌, rules}
 use Rattle.std.specs.Prelude.{IsSome}
 use Rattle.amq_model.specs.declared.config.Config.{Config}
 use Rattle.amq_model.specs.Answers.{history_of}
@@ -6,7 +6,8 @@ use Rattle.amq_model.specs.Leaves.{Told}
 use Rattle.amq_engine.specs.Engine.{data_name}
 use Rattle.amq_engine.specs.OneFile.{IsJournalFile}
 use Rattle.amq_engine.specs.Receipts.{IsCrashSafe}
-use Rattle.amq_cli.specs.Offline.{HasRunOn, HasText, lists_of}
+use Rattle.amq_cli.specs.Offline.{HasRunOn, HasText, HasDiskCause, IsLoadedState, lists_of}
+use Rattle.amq_cli.specs.declared.status.Status.TheVariants.{Ok}
 use Rattle.amq_cli.proofs.Recovering.{safe_still}
 use Rattle.amq_cli.proofs.Reloading.{has_run_on, never_done, closed_so}
 use Rattle.amq_cli.proofs.Running.{replayed_closed, ended_closed, reported_text, unreported_text, refused_text, refusal_status, named_refusal}
@@ -34,7 +35,8 @@ returns-clause-run g c =
 
 pub returns-clause-text : goal.returns-clause-text
 returns-clause-text g c =
-    let timeout = c.args.engine.config.buffer_timeout in
+    let config = c.args.engine.config in
+    let timeout = config.buffer_timeout in
     let lines = c.args.lines.items in
     let kept = c.close-disk.result.1 in
     let steps = kept.steps.items in
@@ -43,19 +45,21 @@ returns-clause-text g c =
     let before = c.replay-played.new.text.items in
     let status = c.match-played.status in
     let faults = g.D.Disk.faults in
+    let now = c.match-played.disk in
+    let loaded = IsLoadedState (g.D.Disk.past now) config.user_version kept.base steps in
     elim c.match-played.branch [
       | in-Ok+in-Ok-closed w ↦ (let replayed = replayed_closed timeout lines (lists_of played.chronicle) (lists_of kept) _ _ _ c.close-disk.ensures.receipt before w.in-Ok.ensures.replayed in
-          let text = reported_text timeout w.add_report.result lines (faults c.match-played.disk) (faults c.close-disk.result.0) (faults w.add_report.new.disk) steps receipts before w.add_report.new.text.items (g.D.Disk.past c.close-disk.result.0) (g.D.Disk.past w.add_report.new.disk) replayed w.add_report.ensures.reported w.add_report.ensures.unreported w.add_report.ensures.cause in
-          subst (λ s. HasText timeout s lines (faults c.match-played.disk) steps receipts c.match-played.text.items) (sym w.status-is) (subst (λ t. HasText timeout w.add_report.result lines (faults c.match-played.disk) steps receipts t.items) (sym w.text-is) text))
+          let unreported = subst (λ s. (s ≡ Ok) ⊎ (c.match-played.text.items ≡ before)) (sym w.status-is) (subst (λ t. (w.add_report.result ≡ Ok) ⊎ (t.items ≡ before)) (sym w.text-is) w.add_report.ensures.unreported) in
+          let cause = subst (λ s. HasDiskCause s (faults c.close-disk.result.0) (faults w.add_report.new.disk)) (sym w.status-is) w.add_report.ensures.cause in
+          reported_text config status lines (faults now) (faults c.close-disk.result.0) (faults w.add_report.new.disk) kept.base steps receipts before c.match-played.text.items (g.D.Disk.past now) replayed (returns-clause-run g c) unreported cause)
       | in-Ok+in-Err-closed w ↦ (let replayed = replayed_closed timeout lines (lists_of played.chronicle) (lists_of kept) _ _ _ c.close-disk.ensures.receipt before w.in-Ok.ensures.replayed in
           let which = refusal_status w.in-Err-closed.refusal in
           let same = w.status-is ∙ w.status_of_refusal.ensures in
-          subst (λ s. HasText timeout s lines (faults c.match-played.disk) steps receipts c.match-played.text.items) (sym same) (unreported_text timeout _ lines (faults c.match-played.disk) steps receipts before c.match-played.text.items replayed (ap (λ t. t.items) w.text-is) which))
+          subst (λ s. HasText timeout s loaded lines (faults now) steps receipts c.match-played.text.items) (sym same) (unreported_text timeout _ loaded lines (faults now) steps receipts before c.match-played.text.items replayed (ap (λ t. t.items) w.text-is) which))
       | in-Err w ↦ (let ended = ended_closed timeout lines (lists_of played.chronicle) (lists_of kept) _ _ _ c.close-disk.ensures.receipt before _ _ w.in-Err.ensures.ended in
-          let idle : IsSome played.closed → faults c.match-played.disk ≡ faults played.disk = λ some. ap faults (w.disk-is ∙ c.close-disk.ensures.idle (inr some)) in
-          let named = named_refusal (Unit {0}) w.in-Err.refusal (faults c.args.engine.disk) (faults played.disk) (faults c.match-played.disk) played.closed w.in-Err.ensures.cause w.in-Err.ensures.closes idle in
-          subst (λ t. HasText timeout status lines (faults c.match-played.disk) steps receipts t.items) (sym w.text-is)
-          (refused_text timeout status lines (faults c.match-played.disk) steps receipts before w.in-Err.refusal w.in-Err.ensures.last (w.status-is ∙ w.status_of_refusal-status.ensures) named ended))
+          let idle : IsSome played.closed → faults now ≡ faults played.disk = λ some. ap faults (w.disk-is ∙ c.close-disk.ensures.idle (inr some)) in
+          let named = named_refusal (Unit {0}) w.in-Err.refusal (faults c.args.engine.disk) (faults played.disk) (faults now) played.closed w.in-Err.ensures.cause w.in-Err.ensures.closes idle in
+          subst (λ t. HasText timeout status loaded lines (faults now) steps receipts t.items) (sym w.text-is) (refused_text timeout status loaded lines (faults now) steps receipts before w.in-Err.refusal w.in-Err.ensures.last (w.status-is ∙ w.status_of_refusal-status.ensures) named ended))
     ]
 
 pub returns-clause-crash_safe : goal.returns-clause-crash_safe

@@ -9,7 +9,7 @@ use Rattle.amq_engine.specs.Engine.{data_name, temporary_name}
 use Rattle.amq_io.specs.Faults.{as_error}
 use Rattle.amq_engine.specs.OneFile.{header_of}
 use Rattle.amq_engine.proofs.Begun.{empty_told, some_told, begun_is, begun_safe, listed_only, prepared_only, some_if}
-use Rattle.amq_engine.proofs.Commands.{when_ok, when_err}
+use Rattle.amq_engine.proofs.Commanding.{when_ok, when_err}
 use Rattle.amq_engine.proofs.opening.begin.Goals as goal
 use Rattle.amq_engine.proofs.opening.begin.Goals.{then-is_err-via-then-is_err, then-is_err-via-else-is_err+then-is_err-2}
 

@@ -1,6 +1,6 @@
-use Rattle.std.proofs.Common.{sym, ap, subst, ◌∙◌}
-use Rattle.std.specs.Prelude.{IfSome, ◌==◌}
-use Rattle.std.specs.HashSet.{contains}
+use Rattle.std.proofs.Common.{◌≡◌, sym, ap, subst, ◌∙◌}
+use Rattle.std.specs.Prelude.{IfSome, OnOk, ◌==◌}
+use Rattle.amq_tx.specs.Tables.{state_of}
 use Rattle.amq_model.specs.declared.config.Config.{Config}
 use Rattle.amq_model.specs.Answers.{history_of}
 use Rattle.amq_model.specs.Leaves.{Told}
@@ -15,6 +15,6 @@ returns-clause-content g c =
     let P : Config → Type 0 = λ k. IfSome (g.C.Chronicle.lists e.chronicle) (λ l. Told (g.D.Disk.past e.disk) (IsJournalFile data_name k.user_version k.file_size (history_of l.steps))) in
     when_ok c.flush-outcome.result _ _
     (λ done. subst P (ap (λ v. v.config) c.self.view_is ∙ ap (λ v. v.config) done)
-    (sound_journal (g.D.Disk.past e.disk) (g.C.Chronicle.lists e.chronicle) (g.C.Chronicle.receipt_room e.chronicle) e.config (contains (◌==◌) e.live) e.tail c.self.invariant.sound
+    (sound_journal (g.D.Disk.past e.disk) (g.C.Chronicle.lists e.chronicle) (g.C.Chronicle.receipt_room e.chronicle) e.config (state_of e.table) e.tail c.self.invariant.sound
     (ap (λ v. v.durable) c.self.view_is ∙ ap (λ v. v.durable) done ∙ sym (ap (λ v. v.appended) done) ∙ sym (ap (λ v. v.appended) c.self.view_is))))
     c.flush-outcome.ensures.ok
