@@ -1,5 +1,5 @@
 -- One line of a replay, through the engine.
-use Rattle.std.proofs.Common.{◌≡◌, ◌⊎◌, inl, inr, ℕ, ◌+◌, Bool, true, false, cond, eqb, List, [], ◌∷◌, ◌++◌, Option, None, Some, refl, sym, ap, subst, ◌∙◌}
+use Rattle.std.proofs.Common.{◌≡◌, inl, inr, ℕ, ◌+◌, Bool, true, false, cond, eqb, List, [], ◌∷◌, ◌++◌, Option, None, Some, refl, sym, ap, subst, ◌∙◌}
 use Rattle.std.specs.Prelude.{IfOk, max, option_map, ◌||◌, Result, Ok, Err}
 use Rattle.std.specs.List.{list_any}
 use Rattle.std.proofs.lemmas.Bool.{eq-eqb}
@@ -16,21 +16,18 @@ use Rattle.amq_model.specs.declared.history.Answer.{Answer}
 use Rattle.amq_model.specs.declared.history.Answer.TheVariants.{Done, Refused}
 use Rattle.amq_model.specs.declared.history.Step.{Step}
 use Rattle.amq_model.specs.declared.refusal.Refusal.{Refusal}
+use Rattle.amq_model.specs.declared.refusal.Refusal.TheVariants as no
 use Rattle.amq_engine.specs.declared.chronicle.Kept.{Kept}
 use Rattle.amq_engine.specs.declared.chronicle.Receipted.{Receipted}
 use Rattle.amq_engine.specs.Lists.{Lists, with_step, with_receipt}
 use Rattle.amq_engine.specs.Receipts.{IsLastCount, EndsWith}
-use Rattle.amq_engine.specs.Engine.{EngineOf, Notes, is_noted, answer_of, receipted, IsReply, flushes, flushed, with_record, behind_command, at_clock, must_flush, behind_tick, is_due}
+use Rattle.amq_engine.specs.Engine.{EngineOf, Notes, is_noted, answer_of, receipted, IsReply, IsCommandAnswer, IsCommandRefusal, flushes, flushed, moves, moved, with_record, behind_command, at_clock, must_flush, behind_tick, is_due}
 use Rattle.amq_cli.specs.Offline.{lists_of}
 use Rattle.amq_cli.specs.Replay.{IsTicked, is_begin, number_behind, Answered, sent, commanded, counted, placed_at, ticked, clock_of, IsReceipted, IsLineAnswer}
-use Rattle.amq_cli.specs.Playing.{AreNumbers, AreSteps, IsPlaying}
+use Rattle.amq_cli.specs.Playing.{Grows, HasNoStep, AreNumbers, AreSteps, IsPlaying}
 use Rattle.amq_cli.proofs.Playing.{numbers_flushed, numbers_appended, numbers_answered, tick_waits, tick_flushes, same_clock, later_clock, one_more_answer, step_more, steps_same, weaker_receipts}
 
 -- ---- what was noted
-
--- the same receipts, or one more
-abbrev pub Grows : List Receipted → List Receipted → Type 0
-Grows old new = (new ≡ old) ⊎ ((r : Receipted) × (new ≡ old ++ r ∷ []))
 
 any_front : (p : Receipted → Bool) (rs : List Receipted) (r : Receipted) → list_any p rs ≡ true → list_any p (rs ++ r ∷ []) ≡ true
 any_front p [] r is = absurd cc
@@ -55,10 +52,10 @@ pub last_receipted : (n : ℕ) (rs : List Receipted) → IsLastCount n rs → Is
 last_receipted n [] last = absurd last
 last_receipted n (r ∷ rs) last = ends_some n r rs last
 
--- a flush, or none
-pub flushed_lists : (b : Bool) (appended moment : ℕ) (old new : Lists) → Some new ≡ receipted b appended moment (Some old) → (new.steps ≡ old.steps) × Grows old.receipts new.receipts
-flushed_lists true appended moment old new is = let same : new ≡ with_receipt appended moment old = cc in (ap (λ (l : Lists). l.steps) same, inr (_, ap (λ (l : Lists). l.receipts) same))
-flushed_lists false appended moment old new is = let same : new ≡ old = cc in (ap (λ (l : Lists). l.steps) same, inl (ap (λ (l : Lists). l.receipts) same))
+-- a flush, or none, and no step
+pub no_step : (b : Bool) (appended moment : ℕ) (old new : Lists) → Some new ≡ receipted b appended moment (Some old) → HasNoStep old new
+no_step true appended moment old new is = let same : new ≡ with_receipt appended moment old = cc in record { steps = ap (λ (l : Lists). l.steps) same; receipts = inr (_, ap (λ (l : Lists). l.receipts) same) }
+no_step false appended moment old new is = let same : new ≡ old = cc in record { steps = ap (λ (l : Lists). l.steps) same; receipts = inl (ap (λ (l : Lists). l.receipts) same) }
 
 -- the step that a command noted
 pub record IsNoted (number : ℕ) (command : Command) (result : Result Reply Refusal) (old new : Lists) : Type 0 where
@@ -74,7 +71,7 @@ pub record IsNoted (number : ℕ) (command : Command) (result : Result Reply Ref
 abbrev step_of : ℕ → Command → Answer → Option Placed → Step
 step_of number command answer placed = record { seat = 1; number = number; command = command; answer = answer; placed = placed }
 
-pub noted : (number : ℕ) (command : Command) (result : Result Reply Refusal) (b : Bool) (appended moment : ℕ) (old new : Lists) → is_noted result ≡ true → Notes 1 number command result (receipted b appended moment (Some old)) (Some new) → IsNoted number command result old new
+pub noted : {file end : ℕ} (number : ℕ) (command : Command) (result : Result Reply Refusal) (b : Bool) (appended moment : ℕ) (old new : Lists) → is_noted result ≡ true → Notes 1 number command result file end (receipted b appended moment (Some old)) (Some new) → IsNoted number command result old new
 noted number command result b appended moment old new taken notes = by b refl where
   is : Some new ≡ option_map (with_step (step_of number command (answer_of result) notes.placed)) (receipted b appended moment (Some old))
   is = notes.is ∙ ap (λ (x : Bool). cond x (option_map (with_step (step_of number command (answer_of result) notes.placed)) (receipted b appended moment (Some old))) (receipted b appended moment (Some old))) taken
@@ -88,6 +85,25 @@ noted number command result b appended moment old new taken notes = by b refl wh
       let e : Some new ≡ Some (with_step (step_of number command (answer_of result) notes.placed) old) = is ∙ ap (λ (x : Bool). option_map (with_step (step_of number command (answer_of result) notes.placed)) (receipted x appended moment (Some old))) here in
       let same : new ≡ with_step (step_of number command (answer_of result) notes.placed) old = cc in
       record { step = step_of number command (answer_of result) notes.placed; steps = ap (λ (l : Lists). l.steps) same; receipts = inl (ap (λ (l : Lists). l.receipts) same); seated = refl; numbered = refl; commanded = refl; answered = refl }
+
+-- a call that notes no step
+pub unnoted : {file end : ℕ} (number : ℕ) (command : Command) (result : Result Reply Refusal) (b : Bool) (appended moment : ℕ) (old new : Lists) → is_noted result ≡ false → Notes 1 number command result file end (receipted b appended moment (Some old)) (Some new) → HasNoStep old new
+unnoted number command result b appended moment old new ends notes = no_step b appended moment old new (notes.is ∙ ap (λ (x : Bool). cond x (option_map (with_step (step_of number command (answer_of result) notes.placed)) (receipted b appended moment (Some old))) (receipted b appended moment (Some old))) ends)
+
+-- a refusal that is noted is one of the command
+pub of_command : (refusal : Refusal) → is_noted (Err refusal) ≡ true → IsCommandAnswer refusal → IsCommandRefusal refusal
+of_command (no.Closed call) taken is = absurd cc
+of_command (no.Disk call) taken is = absurd cc
+of_command no.NoMemory taken is = absurd cc
+of_command (no.TooLarge len limit) taken is = is
+of_command (no.NoTx tx) taken is = is
+of_command (no.TxPrepared tx) taken is = is
+of_command (no.Held id tx) taken is = is
+of_command (no.AlreadyLive id) taken is = is
+of_command (no.NoRecord id) taken is = is
+of_command (no.TxNumbersSpent highest) taken is = is
+of_command (no.Compacting phase) taken is = is
+of_command (no.FileIdsSpent highest) taken is = is
 
 -- a line that sends a command has the command and its answer
 said : {number : ℕ} {command : Command} {result : Result Reply Refusal} {old new : Lists} (answered : List Answered) (line : Line) → sent answered line ≡ Some command → (n : IsNoted number command result old new) → commanded answered (line, Some (answer_of result)) ≡ Some (n.step.command, n.step.answer)
@@ -130,19 +146,34 @@ module _ {D : Type 0} (timeout : ℕ) (answered : List Answered) (number : ℕ) 
   as_new : (xs : List Answered) (e : EngineOf D Kept) → new ≡ record e { disk = new.disk; chronicle = new.chronicle } → Numbers xs e → Numbers xs new
   as_new xs e is n = subst (Numbers xs) (sym is) n
 
-  -- one append more, behind the buffer written out or not
-  record_numbers : (x : Answered) (len : ℕ) (b : Bool) → ticked x ≡ None → placed_at x ≡ Some old.appended → counted x ≡ None → Grows old.chronicle.receipts.items new.chronicle.receipts.items → IsReceipted new.chronicle.receipts.items (cond b (flushed old) old).durable
-      → Numbers (answered ++ x ∷ []) (with_record (Some len) (cond b (flushed old) old))
-  record_numbers x len true no_tick at no_count grows last = numbers_appended answered x _ old.clock old.appended old.appended None no_tick at no_count (first_flushed true grows last)
-  record_numbers x len false no_tick at no_count grows last = numbers_appended answered x _ old.clock old.appended old.durable old.since no_tick at no_count (first_flushed false grows last)
+  -- behind a move to the first of these files, or to a new one
+  abbrev Gone : List ℕ → EngineOf D Kept
+  Gone ids = elim ids [
+    | [] ↦ record (flushed old) { file = old.highest + 1; end = 16; highest = old.highest + 1 }
+    | id ∷ ids ↦ record (flushed old) { file = id; end = 16; free = ids }
+  ]
+
+  -- behind a move, or behind the buffer written out, or as before
+  abbrev Ready : Bool → Bool → EngineOf D Kept
+  Ready m b = cond m (moved old) (cond b (flushed old) old)
+
+  -- one append more
+  record_numbers : (x : Answered) (len : ℕ) (m b : Bool) → ticked x ≡ None → placed_at x ≡ Some old.appended → counted x ≡ None → Grows old.chronicle.receipts.items new.chronicle.receipts.items → IsReceipted new.chronicle.receipts.items (Ready m b).durable
+      → Numbers (answered ++ x ∷ []) (with_record (Some len) (Ready m b))
+  record_numbers x len true b no_tick at no_count grows last = by old.free last where
+    by : (ids : List ℕ) → IsReceipted new.chronicle.receipts.items (Gone ids).durable → Numbers (answered ++ x ∷ []) (with_record (Some len) (Gone ids))
+    by [] last = numbers_appended answered x _ old.clock old.appended old.appended None no_tick at no_count (first_flushed true grows last)
+    by (id ∷ ids) last = numbers_appended answered x _ old.clock old.appended old.appended None no_tick at no_count (first_flushed true grows last)
+  record_numbers x len false true no_tick at no_count grows last = numbers_appended answered x _ old.clock old.appended old.appended None no_tick at no_count (first_flushed true grows last)
+  record_numbers x len false false no_tick at no_count grows last = numbers_appended answered x _ old.clock old.appended old.durable old.since no_tick at no_count (first_flushed false grows last)
 
   -- a command that was accepted
   command_numbers : (line : Line) (command : Command) (reply : Reply) → ticked (line, Some (Done reply)) ≡ None → IsReply old.appended command reply → Grows old.chronicle.receipts.items new.chronicle.receipts.items → IsReceipted new.chronicle.receipts.items (behind_command command old).durable
       → Numbers (answered ++ (line, Some (Done reply)) ∷ []) (behind_command command old)
   command_numbers line command reply no_tick is grows last = by command is last where
-    appended : (command : Command) (len : ℕ) → reply ≡ Appended old.appended → IsReceipted new.chronicle.receipts.items (cond (flushes old.config.buffer_size old.waiting command) (flushed old) old).durable
-        → Numbers (answered ++ (line, Some (Done reply)) ∷ []) (with_record (Some len) (cond (flushes old.config.buffer_size old.waiting command) (flushed old) old))
-    appended command len is last = record_numbers (line, Some (Done reply)) len (flushes old.config.buffer_size old.waiting command) no_tick (ap (λ (r : Reply). placed_at (line, Some (Done r))) is) (ap (λ (r : Reply). counted (line, Some (Done r))) is) grows last
+    appended : (command : Command) (len : ℕ) → reply ≡ Appended old.appended → IsReceipted new.chronicle.receipts.items (Ready (moves old command) (flushes old.config.buffer_size old.waiting command)).durable
+        → Numbers (answered ++ (line, Some (Done reply)) ∷ []) (with_record (Some len) (Ready (moves old command) (flushes old.config.buffer_size old.waiting command)))
+    appended command len is last = record_numbers (line, Some (Done reply)) len (moves old command) (flushes old.config.buffer_size old.waiting command) no_tick (ap (λ (r : Reply). placed_at (line, Some (Done r))) is) (ap (λ (r : Reply). counted (line, Some (Done r))) is) grows last
 
     of_begin : (r : Reply) → IsReply old.appended c.Begin r → (placed_at (line, Some (Done r)) ≡ None) × (counted (line, Some (Done r)) ≡ None)
     of_begin (Begun tx) is = (refl, refl)
@@ -165,8 +196,8 @@ module _ {D : Type 0} (timeout : ℕ) (answered : List Answered) (number : ℕ) 
     by c.Flush is last =
         numbers_answered answered (line, Some (Done reply)) _ old.clock old.clock old.appended old.appended None (was.numbers.time ∙ sym (same_clock answered (line, Some (Done reply)) no_tick)) (ap (λ (r : Reply). placed_at (line, Some (Done r))) is) (inr (ap (λ (r : Reply). counted (line, Some (Done r))) is)) (first_flushed true grows last)
 
-  pub command_accepted : (line : Line) (command : Command) (reply : Reply) (b : Bool) (moment : ℕ) → sent answered line ≡ Some command → IsReply old.appended command reply → new ≡ record (behind_command command old) { disk = new.disk; chronicle = new.chronicle }
-      → Notes 1 number command (Ok reply) (receipted b old.appended moment (Some (lists_of old.chronicle))) (Some (lists_of new.chronicle)) → IsLastCount new.durable new.chronicle.receipts.items → IsPlaying timeout (answered ++ (line, Some (Done reply)) ∷ []) (number + 1) new
+  pub command_accepted : {file end : ℕ} (line : Line) (command : Command) (reply : Reply) (b : Bool) (moment : ℕ) → sent answered line ≡ Some command → IsReply old.appended command reply → new ≡ record (behind_command command old) { disk = new.disk; chronicle = new.chronicle }
+      → Notes 1 number command (Ok reply) file end (receipted b old.appended moment (Some (lists_of old.chronicle))) (Some (lists_of new.chronicle)) → IsLastCount new.durable new.chronicle.receipts.items → IsPlaying timeout (answered ++ (line, Some (Done reply)) ∷ []) (number + 1) new
   command_accepted line command reply b moment sends is went notes last =
       let x : Answered = (line, Some (Done reply)) in
       let n = noted number command (Ok reply) b old.appended moment (lists_of old.chronicle) (lists_of new.chronicle) refl notes in
@@ -177,10 +208,10 @@ module _ {D : Type 0} (timeout : ℕ) (answered : List Answered) (number : ℕ) 
         answers = one_more_answer timeout answered x was.answers (sent_answer timeout answered line command (Done reply) sends);
       }
 
-  pub command_refused : (line : Line) (command : Command) (refusal : Refusal) (moment : ℕ) → sent answered line ≡ Some command → is_noted (Err refusal) ≡ true → new ≡ record old { disk = new.disk; chronicle = new.chronicle; closed = new.closed }
-      → Notes 1 number command (Err refusal) (Some (lists_of old.chronicle)) (Some (lists_of new.chronicle)) → IsPlaying timeout (answered ++ (line, Some (Refused refusal)) ∷ []) (number + 1) new
-  command_refused line command refusal moment sends taken went notes =
-      let n = noted number command (Err refusal) false old.appended moment (lists_of old.chronicle) (lists_of new.chronicle) taken notes in
+  pub command_refused : {file end : ℕ} (line : Line) (command : Command) (refusal : Refusal) (b : Bool) (moment : ℕ) → sent answered line ≡ Some command → is_noted (Err refusal) ≡ true → new ≡ record old { chronicle = new.chronicle }
+      → Notes 1 number command (Err refusal) file end (receipted b old.appended moment (Some (lists_of old.chronicle))) (Some (lists_of new.chronicle)) → IsPlaying timeout (answered ++ (line, Some (Refused refusal)) ∷ []) (number + 1) new
+  command_refused line command refusal b moment sends taken went notes =
+      let n = noted number command (Err refusal) b old.appended moment (lists_of old.chronicle) (lists_of new.chronicle) taken notes in
       let x : Answered = (line, Some (Refused refusal)) in
       record {
         numbers = subst (Numbers (answered ++ x ∷ [])) (sym went)
@@ -192,8 +223,8 @@ module _ {D : Type 0} (timeout : ℕ) (answered : List Answered) (number : ℕ) 
   pub tick_answered : (now count moment : ℕ) → timeout ≡ old.config.buffer_timeout → count ≡ new.durable → new ≡ record (behind_tick now old) { disk = new.disk; chronicle = new.chronicle }
       → Some (lists_of new.chronicle) ≡ receipted (must_flush (at_clock now old)) old.appended moment (Some (lists_of old.chronicle)) → IsLastCount new.durable new.chronicle.receipts.items → IsPlaying timeout (answered ++ (l.Tick now, Some (Done (Durable count))) ∷ []) number new
   tick_answered now count moment time is went receipt last = by (must_flush (at_clock now old)) refl where
-    lists : (new.chronicle.steps.items ≡ old.chronicle.steps.items) × Grows old.chronicle.receipts.items new.chronicle.receipts.items
-    lists = flushed_lists (must_flush (at_clock now old)) old.appended moment (lists_of old.chronicle) (lists_of new.chronicle) receipt
+    lists : HasNoStep (lists_of old.chronicle) (lists_of new.chronicle)
+    lists = no_step (must_flush (at_clock now old)) old.appended moment (lists_of old.chronicle) (lists_of new.chronicle) receipt
 
     later : max old.clock now ≡ clock_of (answered ++ (l.Tick now, Some (Done (Durable count))) ∷ [])
     later = ap (λ k. max k now) was.numbers.time ∙ sym (later_clock answered (l.Tick now, Some (Done (Durable count))) now refl)
@@ -206,16 +237,16 @@ module _ {D : Type 0} (timeout : ℕ) (answered : List Answered) (number : ℕ) 
         let gone : new ≡ record (flushed (at_clock now old)) { disk = new.disk; chronicle = new.chronicle } = went ∙ ap (λ b. record (cond b (flushed (at_clock now old)) (at_clock now old)) { disk = new.disk; chronicle = new.chronicle }) here in
         let all : count ≡ old.appended = is ∙ ap (λ (e : EngineOf D Kept). e.durable) gone in
         record {
-          numbers = subst (Numbers (answered ++ (l.Tick now, Some (Done (Durable count))) ∷ [])) (sym gone) (numbers_answered answered (l.Tick now, Some (Done (Durable count))) _ old.clock (max old.clock now) old.appended old.appended None later refl (inr (ap Some all)) (first_flushed true lists.1 (subst (IsReceipted new.chronicle.receipts.items) (ap (λ (e : EngineOf D Kept). e.durable) gone) receipted_now)));
-          steps = subst (λ ss. AreSteps (answered ++ (l.Tick now, Some (Done (Durable count))) ∷ []) ss number) (sym lists.0) (steps_same answered old.chronicle.steps.items number (l.Tick now, Some (Done (Durable count))) was.steps refl);
+          numbers = subst (Numbers (answered ++ (l.Tick now, Some (Done (Durable count))) ∷ [])) (sym gone) (numbers_answered answered (l.Tick now, Some (Done (Durable count))) _ old.clock (max old.clock now) old.appended old.appended None later refl (inr (ap Some all)) (first_flushed true lists.receipts (subst (IsReceipted new.chronicle.receipts.items) (ap (λ (e : EngineOf D Kept). e.durable) gone) receipted_now)));
+          steps = subst (λ ss. AreSteps (answered ++ (l.Tick now, Some (Done (Durable count))) ∷ []) ss number) (sym lists.steps) (steps_same answered old.chronicle.steps.items number (l.Tick now, Some (Done (Durable count))) was.steps refl);
           answers = one_more_answer timeout answered (l.Tick now, Some (Done (Durable count))) was.answers (subst (λ (n : ℕ). IsTicked timeout answered now n) (sym all) (tick_flushes timeout answered _ old.clock old.appended old.durable now old.since was.numbers));
         }
     by false here =
         let gone : new ≡ record (at_clock now old) { disk = new.disk; chronicle = new.chronicle } = went ∙ ap (λ b. record (cond b (flushed (at_clock now old)) (at_clock now old)) { disk = new.disk; chronicle = new.chronicle }) here in
         let same : count ≡ old.durable = is ∙ ap (λ (e : EngineOf D Kept). e.durable) gone in
         record {
-          numbers = subst (Numbers (answered ++ (l.Tick now, Some (Done (Durable count))) ∷ [])) (sym gone) (numbers_answered answered (l.Tick now, Some (Done (Durable count))) _ old.clock (max old.clock now) old.appended old.durable old.since later refl (inr (ap Some same)) (first_flushed false lists.1 (more_receipts _ _ lists.1 old.durable was.numbers.last)));
-          steps = subst (λ ss. AreSteps (answered ++ (l.Tick now, Some (Done (Durable count))) ∷ []) ss number) (sym lists.0) (steps_same answered old.chronicle.steps.items number (l.Tick now, Some (Done (Durable count))) was.steps refl);
+          numbers = subst (Numbers (answered ++ (l.Tick now, Some (Done (Durable count))) ∷ [])) (sym gone) (numbers_answered answered (l.Tick now, Some (Done (Durable count))) _ old.clock (max old.clock now) old.appended old.durable old.since later refl (inr (ap Some same)) (first_flushed false lists.receipts (more_receipts _ _ lists.receipts old.durable was.numbers.last)));
+          steps = subst (λ ss. AreSteps (answered ++ (l.Tick now, Some (Done (Durable count))) ∷ []) ss number) (sym lists.steps) (steps_same answered old.chronicle.steps.items number (l.Tick now, Some (Done (Durable count))) was.steps refl);
           answers = one_more_answer timeout answered (l.Tick now, Some (Done (Durable count))) was.answers (subst (λ (n : ℕ). IsTicked timeout answered now n) (sym same) (tick_waits timeout answered _ old.clock old.appended old.durable now old.since (ap (λ (t : ℕ). is_due (max old.clock now) t old.since) time ∙ here) was.numbers));
         }
 

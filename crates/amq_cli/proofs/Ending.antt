@@ -12,11 +12,11 @@ use Rattle.amq_model.specs.declared.refusal.Refusal.{Refusal}
 use Rattle.amq_model.specs.declared.refusal.Refusal.TheVariants as r
 use Rattle.amq_engine.specs.declared.chronicle.Kept.{Kept}
 use Rattle.amq_engine.specs.declared.chronicle.Receipted.{Receipted}
-use Rattle.amq_engine.specs.Lists.{Lists}
 use Rattle.amq_engine.specs.Engine.{EngineOf, is_noted, IsFlushRefusal}
 use Rattle.amq_cli.specs.Offline.{lists_of}
 use Rattle.amq_cli.specs.Replay.{Answered, line_of, reply_lines, AreAnswered, HasEnded, HasReplayed, IsLast}
-use Rattle.amq_cli.specs.Playing.{IsPlaying, HasPlayed, AreNumbersOf}
+use Rattle.amq_cli.specs.Playing.{Grows, HasNoStep, IsPlaying, HasPlayed, AreNumbersOf}
+use Rattle.amq_cli.proofs.Answering.{more_receipts}
 
 -- a refusal that isn't an answer, of a journal that isn't closed
 pub last_of_command : (refusal : Refusal) → is_noted (Err refusal) ≡ false → ((call : DiskCall) → refusal ≡ r.Closed call → ⊥) → IsLast refusal
@@ -32,7 +32,6 @@ last_of_command (r.NoRecord id) ends unclosed = absurd cc
 last_of_command (r.TxNumbersSpent highest) ends unclosed = absurd cc
 last_of_command (r.Compacting phase) ends unclosed = absurd cc
 last_of_command (r.FileIdsSpent highest) ends unclosed = absurd cc
-last_of_command (r.FileFull len left) ends unclosed = absurd cc
 
 pub last_of_tick : (refusal : Refusal) → IsFlushRefusal refusal → ((call : DiskCall) → refusal ≡ r.Closed call → ⊥) → IsLast refusal
 last_of_tick (r.Closed call) is unclosed = absurd (unclosed call refl)
@@ -47,10 +46,19 @@ last_of_tick (r.NoRecord id) is unclosed = absurd is
 last_of_tick (r.TxNumbersSpent highest) is unclosed = absurd is
 last_of_tick (r.Compacting phase) is unclosed = absurd is
 last_of_tick (r.FileIdsSpent highest) is unclosed = absurd is
-last_of_tick (r.FileFull len left) is unclosed = absurd is
 
 lines_more : (answered : List Answered) (x : Answered) → reply_lines (answered ++ x ∷ []) ≡ reply_lines answered ++ line_of x
 lines_more answered x = flat_map-append line_of answered (x ∷ []) ∙ ap (λ (t : List ℕ). reply_lines answered ++ t) (append-nil (line_of x))
+
+-- with more receipts
+pub answered_more : (timeout : ℕ) (lines : List Line) (steps steps' : List Step) (receipts receipts' : List Receipted) (answered : List Answered) → steps' ≡ steps → Grows receipts receipts' → AreAnswered timeout lines steps receipts answered → AreAnswered timeout lines steps' receipts' answered
+answered_more timeout lines steps steps' receipts receipts' answered same grows are = subst (λ ss. AreAnswered timeout lines ss receipts' answered) (sym same) (record {
+  front = are.front;
+  commands = are.commands;
+  numbered = are.numbered;
+  receipted = λ k d lt. more_receipts receipts receipts' grows _ (are.receipted k d lt);
+  answers = are.answers;
+})
 
 module _ {D : Type 0} (timeout : ℕ) where
   -- what was played is a front of any script that goes on with these lines
@@ -94,13 +102,13 @@ module _ {D : Type 0} (timeout : ℕ) where
       }
 
   -- a line ended the replay
-  pub line_refused : (done : List Line) (line : Line) (labels : List ℕ → ℕ) (number : ℕ) (old new : EngineOf D Kept) (before after ending : List ℕ) (short : Bool) → HasPlayed timeout done labels number old before → lists_of new.chronicle ≡ lists_of old.chronicle → after ≡ before ++ ending
+  pub line_refused : (done : List Line) (line : Line) (labels : List ℕ → ℕ) (number : ℕ) (old new : EngineOf D Kept) (before after ending : List ℕ) (short : Bool) → HasPlayed timeout done labels number old before → HasNoStep (lists_of old.chronicle) (lists_of new.chronicle) → after ≡ before ++ ending
       → HasEnded timeout (done ++ line ∷ []) new.chronicle.steps.items new.chronicle.receipts.items after ending short
   line_refused done line labels number old new before after ending short was kept is =
       let are = are_answered done (line ∷ []) number was.answered old was.lines was.playing in
       record {
         answered = was.answered;
-        are = subst (λ (l : Lists). AreAnswered timeout (done ++ line ∷ []) l.steps l.receipts was.answered) (sym kept) are;
+        are = answered_more timeout (done ++ line ∷ []) _ _ _ _ was.answered kept.steps kept.receipts are;
         rest = [];
         is = append-nil after ∙ is ∙ ap (λ (t : List ℕ). t ++ ending) was.is;
         whole = inr refl;

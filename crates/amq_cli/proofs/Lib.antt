@@ -4,6 +4,7 @@ pub mod Answering
 pub mod Ending
 pub mod Running
 pub mod Outputs
+pub mod Readings
 pub mod Reloading
 pub mod Labelling
 pub mod ReplayExamples

@@ -27,68 +27,68 @@ nothing_written text None none = refl
 nothing_written text (Some t) none = ap Some (sym (append-nil t)) ∙ ap (λ (x : List ℕ). Some (t ++ x)) (sym none)
 
 -- before there is a line
-pub no_output : (timeout : ℕ) (status : Status) (Loaded : LoadState → Type 0) (left_old left_new : Option (List ℕ)) (faults : Faults) (sink : ℕ) (taken : Option (List ℕ)) (steps : List Step) (receipts : List Receipted) → steps ≡ [] → is_past_script status ≡ false → IsEnding status Loaded faults [] [] []
-    → IsOutput timeout status Loaded left_old left_new faults sink sink taken taken steps receipts
-no_output timeout status Loaded left_old left_new faults sink taken steps receipts none before ends = record {
+pub no_output : (timeout : ℕ) (status : Status) (Loaded : LoadState → Type 0) (left_old left_new : Option (List ℕ)) (was now : Faults) (sink : ℕ) (taken : Option (List ℕ)) (steps : List Step) (receipts : List Receipted) → steps ≡ [] → is_past_script status ≡ false → IsEnding status Loaded was now [] [] []
+    → IsOutput timeout status Loaded left_old left_new was now sink sink taken taken steps receipts
+no_output timeout status Loaded left_old left_new was now sink taken steps receipts none before ends = record {
   lines = [];
   text = [];
   said = inl (before, refl, refl);
-  has = unopened_text timeout status Loaded [] faults steps receipts [] none refl ends;
+  has = unopened_text timeout status Loaded [] was now steps receipts [] none refl ends;
   part = nothing_part [] taken;
   whole = inl (nothing_written [] taken refl);
 }
 
 -- a script that wasn't read
-pub reading_ends : (status : Status) (Loaded : LoadState → Type 0) (left : Option (List ℕ)) (old new : ℕ) (faults : Faults) → HasReadCause status left old new → (is_past_script status ≡ false) × IsEnding status Loaded faults [] [] []
-reading_ends s.SourceFault Loaded left old new faults cause = (refl, (refl, refl))
-reading_ends s.NoMemory Loaded left old new faults cause = (refl, inl refl)
-reading_ends (s.InputTooLong limit) Loaded left old new faults cause = (refl, (refl, refl))
-reading_ends (s.NotBuilt u.Script) Loaded left old new faults cause = (refl, (refl, refl))
-reading_ends (s.NotBuilt u.Words) Loaded left old new faults cause = absurd cause
-reading_ends (s.NotBuilt u.Directory) Loaded left old new faults cause = absurd cause
-reading_ends s.Ok Loaded left old new faults cause = absurd cause
-reading_ends s.SinkFault Loaded left old new faults cause = absurd cause
-reading_ends s.DiskFault Loaded left old new faults cause = absurd cause
+pub reading_ends : (status : Status) (Loaded : LoadState → Type 0) (left : Option (List ℕ)) (old new : ℕ) (was now : Faults) → HasReadCause status left old new → (is_past_script status ≡ false) × IsEnding status Loaded was now [] [] []
+reading_ends s.SourceFault Loaded left old new was now cause = (refl, (refl, refl))
+reading_ends s.NoMemory Loaded left old new was now cause = (refl, inl refl)
+reading_ends (s.InputTooLong limit) Loaded left old new was now cause = (refl, (refl, refl))
+reading_ends (s.NotBuilt u.Script) Loaded left old new was now cause = (refl, (refl, refl))
+reading_ends (s.NotBuilt u.Words) Loaded left old new was now cause = absurd cause
+reading_ends (s.NotBuilt u.Directory) Loaded left old new was now cause = absurd cause
+reading_ends s.Ok Loaded left old new was now cause = absurd cause
+reading_ends s.SinkFault Loaded left old new was now cause = absurd cause
+reading_ends s.DiskFault Loaded left old new was now cause = absurd cause
 
 -- a run on a disk that isn't of a form that isn't built
-pub unwritten_output : (timeout : ℕ) (status : Status) (Loaded : LoadState → Type 0) (lines : List Line) (left_old left_new : Option (List ℕ)) (faults : Faults) (sink : ℕ) (taken : Option (List ℕ)) (steps : List Step) (receipts : List Receipted) (text : List ℕ) → IsSaid lines left_old left_new → text ≡ []
-    → HasText timeout status Loaded lines faults steps receipts text → IsOutput timeout status Loaded left_old left_new faults sink sink taken taken steps receipts
-unwritten_output timeout status Loaded lines left_old left_new faults sink taken steps receipts text said none has = record { lines = lines; text = text; said = inr said; has = has; part = nothing_part text taken; whole = inl (nothing_written text taken none) }
+pub unwritten_output : (timeout : ℕ) (status : Status) (Loaded : LoadState → Type 0) (lines : List Line) (left_old left_new : Option (List ℕ)) (was now : Faults) (sink : ℕ) (taken : Option (List ℕ)) (steps : List Step) (receipts : List Receipted) (text : List ℕ) → IsSaid lines left_old left_new → text ≡ []
+    → HasText timeout status Loaded lines was now steps receipts text → IsOutput timeout status Loaded left_old left_new was now sink sink taken taken steps receipts
+unwritten_output timeout status Loaded lines left_old left_new was now sink taken steps receipts text said none has = record { lines = lines; text = text; said = inr said; has = has; part = nothing_part text taken; whole = inl (nothing_written text taken none) }
 
-any_ending : (outcome : Status) (Loaded : LoadState → Type 0) (faults : Faults) (lines : List Line) (answered : List Answered) (ending : List ℕ) → IsEnding outcome Loaded faults lines answered ending → IsEnding s.NoMemory Loaded faults lines answered ending
-any_ending s.Ok Loaded faults lines answered ending ends = inr (inr ends)
-any_ending s.SinkFault Loaded faults lines answered ending ends = inr (inr ends)
-any_ending s.DiskFault Loaded faults lines answered ending (inl none) = inl none.0
-any_ending s.DiskFault Loaded faults lines answered ending (inr line) = inr (inl line)
-any_ending s.NoMemory Loaded faults lines answered ending ends = ends
-any_ending s.SourceFault Loaded faults lines answered ending ends = inl ends.0
-any_ending (s.InputTooLong limit) Loaded faults lines answered ending ends = inl ends.0
-any_ending (s.NotBuilt part) Loaded faults lines answered ending ends = inl ends.0
+any_ending : (outcome : Status) (Loaded : LoadState → Type 0) (was now : Faults) (lines : List Line) (answered : List Answered) (ending : List ℕ) → IsEnding outcome Loaded was now lines answered ending → IsEnding s.NoMemory Loaded was now lines answered ending
+any_ending s.Ok Loaded was now lines answered ending ends = inr (inr ends)
+any_ending s.SinkFault Loaded was now lines answered ending ends = inr (inr ends)
+any_ending s.DiskFault Loaded was now lines answered ending (inl none) = inl none.0
+any_ending s.DiskFault Loaded was now lines answered ending (inr line) = inr (inl line)
+any_ending s.NoMemory Loaded was now lines answered ending ends = ends
+any_ending s.SourceFault Loaded was now lines answered ending ends = inl ends.0
+any_ending (s.InputTooLong limit) Loaded was now lines answered ending ends = inl ends.0
+any_ending (s.NotBuilt part) Loaded was now lines answered ending ends = inl ends.0
 
 -- the status behind the sink
-text_behind : (timeout : ℕ) (status outcome : Status) (Loaded : LoadState → Type 0) (lines : List Line) (faults : Faults) (old new : ℕ) (steps : List Step) (receipts : List Receipted) (text : List ℕ) → IsEnd status outcome old new → HasText timeout outcome Loaded lines faults steps receipts text → HasText timeout status Loaded lines faults steps receipts text
-text_behind timeout status outcome Loaded lines faults old new steps receipts text (inl same) has = subst (λ (x : Status). HasText timeout x Loaded lines faults steps receipts text) (sym same) has
-text_behind timeout status outcome Loaded lines faults old new steps receipts text (inr (inl memory)) has = subst (λ (x : Status). HasText timeout x Loaded lines faults steps receipts text) (sym memory) (record {
+text_behind : (timeout : ℕ) (status outcome : Status) (Loaded : LoadState → Type 0) (lines : List Line) (was now : Faults) (old new : ℕ) (steps : List Step) (receipts : List Receipted) (text : List ℕ) → IsEnd status outcome old new → HasText timeout outcome Loaded lines was now steps receipts text → HasText timeout status Loaded lines was now steps receipts text
+text_behind timeout status outcome Loaded lines was now old new steps receipts text (inl same) has = subst (λ (x : Status). HasText timeout x Loaded lines was now steps receipts text) (sym same) has
+text_behind timeout status outcome Loaded lines was now old new steps receipts text (inr (inl memory)) has = subst (λ (x : Status). HasText timeout x Loaded lines was now steps receipts text) (sym memory) (record {
   answered = has.answered;
   are = has.are;
   ending = has.ending;
-  ends = any_ending outcome Loaded faults lines has.answered has.ending has.ends;
+  ends = any_ending outcome Loaded was now lines has.answered has.ending has.ends;
   rest = has.rest;
   is = has.is;
   whole = inl refl;
 })
-text_behind timeout status outcome Loaded lines faults old new steps receipts text (inr (inr sink)) has = subst (λ (x : Status). HasText timeout x Loaded lines faults steps receipts text) (sym sink.0) (by (subst (λ (x : Status). HasText timeout x Loaded lines faults steps receipts text) sink.1 has)) where
-  by : HasText timeout s.Ok Loaded lines faults steps receipts text → HasText timeout s.SinkFault Loaded lines faults steps receipts text
+text_behind timeout status outcome Loaded lines was now old new steps receipts text (inr (inr sink)) has = subst (λ (x : Status). HasText timeout x Loaded lines was now steps receipts text) (sym sink.0) (by (subst (λ (x : Status). HasText timeout x Loaded lines was now steps receipts text) sink.1 has)) where
+  by : HasText timeout s.Ok Loaded lines was now steps receipts text → HasText timeout s.SinkFault Loaded lines was now steps receipts text
   by has = record { answered = has.answered; are = has.are; ending = has.ending; ends = has.ends; rest = has.rest; is = has.is; whole = has.whole }
 
 -- a run whose text was given to the sink
-pub written_output : (timeout : ℕ) (status outcome : Status) (Loaded : LoadState → Type 0) (lines : List Line) (left_old left_new : Option (List ℕ)) (faults : Faults) (sink_old sink_new : ℕ) (taken_old taken_new : Option (List ℕ)) (steps : List Step) (receipts : List Receipted) (text : List ℕ) → IsSaid lines left_old left_new → IsEnd status outcome sink_old sink_new
-    → HasText timeout outcome Loaded lines faults steps receipts text → IsPartWritten text taken_old taken_new → IsWritten text taken_old taken_new ⊎ Rose sink_old sink_new ⊎ (is_short status ≡ true) → IsOutput timeout status Loaded left_old left_new faults sink_old sink_new taken_old taken_new steps receipts
-written_output timeout status outcome Loaded lines left_old left_new faults sink_old sink_new taken_old taken_new steps receipts text said end has part whole = record {
+pub written_output : (timeout : ℕ) (status outcome : Status) (Loaded : LoadState → Type 0) (lines : List Line) (left_old left_new : Option (List ℕ)) (was now : Faults) (sink_old sink_new : ℕ) (taken_old taken_new : Option (List ℕ)) (steps : List Step) (receipts : List Receipted) (text : List ℕ) → IsSaid lines left_old left_new → IsEnd status outcome sink_old sink_new
+    → HasText timeout outcome Loaded lines was now steps receipts text → IsPartWritten text taken_old taken_new → IsWritten text taken_old taken_new ⊎ Rose sink_old sink_new ⊎ (is_short status ≡ true) → IsOutput timeout status Loaded left_old left_new was now sink_old sink_new taken_old taken_new steps receipts
+written_output timeout status outcome Loaded lines left_old left_new was now sink_old sink_new taken_old taken_new steps receipts text said end has part whole = record {
   lines = lines;
   text = text;
   said = inr said;
-  has = text_behind timeout status outcome Loaded lines faults sink_old sink_new steps receipts text end has;
+  has = text_behind timeout status outcome Loaded lines was now sink_old sink_new steps receipts text end has;
   part = part;
   whole = whole;
 }

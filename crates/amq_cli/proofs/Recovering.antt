@@ -13,10 +13,9 @@ use Rattle.amq_model.proofs.Recovering.{left_still, nothing_new}
 use Rattle.amq_scan.proofs.Parts.{all_by, all_has}
 use Rattle.amq_engine.specs.declared.chronicle.Receipted.{Receipted}
 use Rattle.amq_engine.specs.Lists.{Lists}
-use Rattle.amq_engine.specs.OneFile.{IsEmpty}
+use Rattle.amq_engine.specs.Directory.{IsEmpty}
 use Rattle.amq_engine.specs.Receipts.{IsLastCount, IsCrashSafe}
 use Rattle.amq_engine.specs.Engine.{durable_after, HasCome}
-use Rattle.amq_model.specs.declared.config.Config.{Config}
 use Rattle.amq_engine.proofs.Recovering.{order_later}
 use Rattle.amq_cli.specs.Offline.{HasBase}
 use Rattle.amq_cli.proofs.Reloading.{began}
@@ -53,6 +52,6 @@ opened_so rs base past none (inl empty) = inl empty
 opened_so rs base past none (inr told) = inr (began base past none told)
 
 -- an opening without a receipt only asked what was there
-pub come_nothing_new : (config : Config) (moment : ℕ) (old new : Option Past) (l : Lists) → HasCome config moment old new l → l.receipts ≡ [] → LeavesNothingNew old new
-come_nothing_new config moment old new l (inl asked) none = nothing_new old new asked.1
-come_nothing_new config moment old new l (inr begun) none = absurd (let e : record { durable = 0; moment = counted moment } ∷ [] ≡ [] = sym begun.0.receipts ∙ none in cc)
+pub come_nothing_new : (moment : ℕ) (old new : Option Past) (l : Lists) → HasCome moment old new l → l.receipts ≡ [] → LeavesNothingNew old new
+come_nothing_new moment old new l (inl asked) none = nothing_new old new asked.1
+come_nothing_new moment old new l (inr begun) none = absurd (let e : record { durable = 0; moment = counted moment } ∷ [] ≡ [] = sym begun.receipts ∙ none in cc)

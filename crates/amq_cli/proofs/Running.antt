@@ -1,5 +1,5 @@
 -- The text of a run, however it ended.
-use Rattle.std.proofs.Common.{◌≡◌, ◌⊎◌, inl, inr, ℕ, ◌<◌, Bool, true, false, List, [], ◌∷◌, ◌++◌, length, Option, None, Some, refl, sym, ap, subst, ◌∙◌, arith}
+use Rattle.std.proofs.Common.{◌≡◌, ◌⊎◌, inl, inr, ℕ, ◌<◌, ◌≤◌, Bool, true, false, List, [], ◌∷◌, ◌++◌, length, Option, None, Some, refl, sym, ap, subst, ◌∙◌, arith}
 use Rattle.std.specs.Prelude.{Err, IsSome}
 use Rattle.std.proofs.lemmas.List.{append-nil}
 use Rattle.amq_model.specs.declared.script.Line.{Line}
@@ -12,7 +12,7 @@ use Rattle.amq_model.specs.declared.record.Placed.{Placed}
 use Rattle.amq_model.specs.declared.state.LoadState.{LoadState}
 use Rattle.amq_model.specs.Calls.{Past}
 use Rattle.amq_model.specs.Texts.{refusal_line, report_of}
-use Rattle.amq_io.specs.Cause.{Faults}
+use Rattle.amq_io.specs.Cause.{Rose, Faults}
 use Rattle.amq_engine.specs.declared.chronicle.Receipted.{Receipted}
 use Rattle.amq_engine.specs.Lists.{Lists}
 use Rattle.amq_model.specs.declared.directory.OpenFault.{OpenFault}
@@ -23,32 +23,23 @@ use Rattle.amq_cli.specs.declared.status.Status.{Status}
 use Rattle.amq_cli.specs.declared.status.Status.TheVariants as s
 use Rattle.amq_cli.specs.Statuses.{status_of, status_of_opening}
 use Rattle.amq_cli.specs.Playing.{AreSteps, HasPlayed}
-use Rattle.amq_cli.specs.Offline.{lists_of, HasText, HasRunOn, IsEnding, IsLoadedState, AreAll, HasDiskCause}
+use Rattle.amq_cli.specs.Offline.{lists_of, HasText, HasRunOn, IsEnding, IsDiskLine, IsLoadedState, AreAll, HasDiskCause}
 use Rattle.amq_cli.specs.Replay.{Answered, reply_lines, AreAnswered, HasEnded, HasReplayed, IsReceipted, IsLast, IsClosedBy, is_for_memory}
-use Rattle.amq_cli.proofs.Answering.{Grows, more_receipts, flushed_lists}
-
--- with more receipts
-answered_more : (timeout : ℕ) (lines : List Line) (steps steps' : List Step) (receipts receipts' : List Receipted) (answered : List Answered) → steps' ≡ steps → Grows receipts receipts' → AreAnswered timeout lines steps receipts answered → AreAnswered timeout lines steps' receipts' answered
-answered_more timeout lines steps steps' receipts receipts' answered same grows are = subst (λ ss. AreAnswered timeout lines ss receipts' answered) (sym same) (record {
-  front = are.front;
-  commands = are.commands;
-  numbered = are.numbered;
-  receipted = λ k d lt. more_receipts receipts receipts' grows _ (are.receipted k d lt);
-  answers = are.answers;
-})
+use Rattle.amq_cli.proofs.Answering.{no_step}
+use Rattle.amq_cli.proofs.Ending.{answered_more}
 
 module _ (timeout : ℕ) (lines : List Line) (old new : Lists) (b : Bool) (appended moment : ℕ) (closed : Some new ≡ receipted b appended moment (Some old)) where
   -- the same behind the flush at closing
   pub replayed_closed : (text : List ℕ) → HasReplayed timeout lines old.steps old.receipts text → HasReplayed timeout lines new.steps new.receipts text
-  replayed_closed text replayed = let f = flushed_lists b appended moment old new closed in record { answered = replayed.answered; are = answered_more timeout lines old.steps new.steps old.receipts new.receipts replayed.answered f.0 f.1 replayed.are; all = replayed.all; is = replayed.is }
+  replayed_closed text replayed = let n = no_step b appended moment old new closed in record { answered = replayed.answered; are = answered_more timeout lines old.steps new.steps old.receipts new.receipts replayed.answered n.steps n.receipts replayed.are; all = replayed.all; is = replayed.is }
 
   pub ended_closed : (text ending : List ℕ) (short : Bool) → HasEnded timeout lines old.steps old.receipts text ending short → HasEnded timeout lines new.steps new.receipts text ending short
-  ended_closed text ending short ended = let f = flushed_lists b appended moment old new closed in record { answered = ended.answered; are = answered_more timeout lines old.steps new.steps old.receipts new.receipts ended.answered f.0 f.1 ended.are; rest = ended.rest; is = ended.is; whole = ended.whole; early = ended.early }
+  ended_closed text ending short ended = let n = no_step b appended moment old new closed in record { answered = ended.answered; are = answered_more timeout lines old.steps new.steps old.receipts new.receipts ended.answered n.steps n.receipts ended.are; rest = ended.rest; is = ended.is; whole = ended.whole; early = ended.early }
 
 -- Nothing stands behind the lines of all.
-silent_ends : (status : Status) (Loaded : LoadState → Type 0) (faults : Faults) (lines : List Line) (answered : List Answered) → AreAll lines answered → (status ≡ s.DiskFault) ⊎ (status ≡ s.NoMemory) → IsEnding status Loaded faults lines answered []
-silent_ends status Loaded faults lines answered all (inl is) = subst (λ (x : Status). IsEnding x Loaded faults lines answered []) (sym is) (inl (refl, inr all))
-silent_ends status Loaded faults lines answered all (inr is) = subst (λ (x : Status). IsEnding x Loaded faults lines answered []) (sym is) (inl refl)
+silent_ends : (status : Status) (Loaded : LoadState → Type 0) (was now : Faults) (lines : List Line) (answered : List Answered) → AreAll lines answered → (status ≡ s.DiskFault) ⊎ (status ≡ s.NoMemory) → IsEnding status Loaded was now lines answered []
+silent_ends status Loaded was now lines answered all (inl is) = subst (λ (x : Status). IsEnding x Loaded was now lines answered []) (sym is) (inl (refl, inr all))
+silent_ends status Loaded was now lines answered all (inr is) = subst (λ (x : Status). IsEnding x Loaded was now lines answered []) (sym is) (inl refl)
 
 pub refusal_status : (refusal : Refusal) → (status_of refusal ≡ s.DiskFault) ⊎ (status_of refusal ≡ s.NoMemory)
 refusal_status (r.Closed fault) = inr refl
@@ -63,21 +54,20 @@ refusal_status (r.Compacting phase) = inr refl
 refusal_status (r.FileIdsSpent highest) = inr refl
 refusal_status (r.Disk call) = inl refl
 refusal_status r.NoMemory = inr refl
-refusal_status (r.FileFull len left) = inr refl
 
--- the call that a refusal names is the one that failed last
-abbrev pub IsNamed : Refusal → Faults → Type 0
-IsNamed (r.Disk call) faults = faults.1 ≡ Some call
-IsNamed _ faults = Unit {0}
+-- a disk call that a refusal names has failed, and is the one that failed last
+abbrev pub IsNamed : Refusal → Faults → Faults → Type 0
+IsNamed (r.Disk call) was now = Rose was.0 now.0 × (now.1 ≡ Some call)
+IsNamed _ was now = Unit {0}
 
 -- a replay that was refused
-pub refused_text : (timeout : ℕ) (status : Status) (Loaded : LoadState → Type 0) (lines : List Line) (faults : Faults) (steps : List Step) (receipts : List Receipted) (text : List ℕ) (refusal : Refusal) → IsLast refusal → status ≡ status_of refusal → IsNamed refusal faults
-    → HasEnded timeout lines steps receipts text (refusal_line refusal) (is_for_memory refusal) → HasText timeout status Loaded lines faults steps receipts text
-refused_text timeout status Loaded lines faults steps receipts text (r.Disk call) last is named ended = subst (λ (x : Status). HasText timeout x Loaded lines faults steps receipts text) (sym is) (record {
+pub refused_text : (timeout : ℕ) (status : Status) (Loaded : LoadState → Type 0) (lines : List Line) (was now : Faults) (steps : List Step) (receipts : List Receipted) (text : List ℕ) (refusal : Refusal) → IsLast refusal → status ≡ status_of refusal → IsNamed refusal was now
+    → HasEnded timeout lines steps receipts text (refusal_line refusal) (is_for_memory refusal) → HasText timeout status Loaded lines was now steps receipts text
+refused_text timeout status Loaded lines was now steps receipts text (r.Disk call) last is named ended = subst (λ (x : Status). HasText timeout x Loaded lines was now steps receipts text) (sym is) (record {
   answered = ended.answered;
   are = ended.are;
   ending = refusal_line (r.Disk call);
-  ends = inr (early ended.early, (call, named, refl));
+  ends = inr (early ended.early, named.0, (call, named.1, refl));
   rest = ended.rest;
   is = ended.is;
   whole = ended.whole;
@@ -85,7 +75,7 @@ refused_text timeout status Loaded lines faults steps receipts text (r.Disk call
   early : (false ≡ true) ⊎ (length ended.answered < length lines) → length ended.answered < length lines
   early (inl e) = absurd cc
   early (inr lt) = lt
-refused_text timeout status Loaded lines faults steps receipts text r.NoMemory last is named ended = subst (λ (x : Status). HasText timeout x Loaded lines faults steps receipts text) (sym is) (record {
+refused_text timeout status Loaded lines was now steps receipts text r.NoMemory last is named ended = subst (λ (x : Status). HasText timeout x Loaded lines was now steps receipts text) (sym is) (record {
   answered = ended.answered;
   are = ended.are;
   ending = [];
@@ -94,35 +84,34 @@ refused_text timeout status Loaded lines faults steps receipts text r.NoMemory l
   is = ended.is;
   whole = inl refl;
 })
-refused_text timeout status Loaded lines faults steps receipts text (r.Closed fault) last is named ended = absurd last
-refused_text timeout status Loaded lines faults steps receipts text (r.TooLarge len limit) last is named ended = absurd last
-refused_text timeout status Loaded lines faults steps receipts text (r.NoTx tx) last is named ended = absurd last
-refused_text timeout status Loaded lines faults steps receipts text (r.TxPrepared tx) last is named ended = absurd last
-refused_text timeout status Loaded lines faults steps receipts text (r.Held id tx) last is named ended = absurd last
-refused_text timeout status Loaded lines faults steps receipts text (r.AlreadyLive id) last is named ended = absurd last
-refused_text timeout status Loaded lines faults steps receipts text (r.NoRecord id) last is named ended = absurd last
-refused_text timeout status Loaded lines faults steps receipts text (r.TxNumbersSpent highest) last is named ended = absurd last
-refused_text timeout status Loaded lines faults steps receipts text (r.Compacting phase) last is named ended = absurd last
-refused_text timeout status Loaded lines faults steps receipts text (r.FileIdsSpent highest) last is named ended = absurd last
-refused_text timeout status Loaded lines faults steps receipts text (r.FileFull len left) last is named ended = absurd last
+refused_text timeout status Loaded lines was now steps receipts text (r.Closed fault) last is named ended = absurd last
+refused_text timeout status Loaded lines was now steps receipts text (r.TooLarge len limit) last is named ended = absurd last
+refused_text timeout status Loaded lines was now steps receipts text (r.NoTx tx) last is named ended = absurd last
+refused_text timeout status Loaded lines was now steps receipts text (r.TxPrepared tx) last is named ended = absurd last
+refused_text timeout status Loaded lines was now steps receipts text (r.Held id tx) last is named ended = absurd last
+refused_text timeout status Loaded lines was now steps receipts text (r.AlreadyLive id) last is named ended = absurd last
+refused_text timeout status Loaded lines was now steps receipts text (r.NoRecord id) last is named ended = absurd last
+refused_text timeout status Loaded lines was now steps receipts text (r.TxNumbersSpent highest) last is named ended = absurd last
+refused_text timeout status Loaded lines was now steps receipts text (r.Compacting phase) last is named ended = absurd last
+refused_text timeout status Loaded lines was now steps receipts text (r.FileIdsSpent highest) last is named ended = absurd last
 
 -- all lines were answered, and nothing stands behind theirs
-pub unreported_text : (timeout : ℕ) (status : Status) (Loaded : LoadState → Type 0) (lines : List Line) (faults : Faults) (steps : List Step) (receipts : List Receipted) (before after : List ℕ) → HasReplayed timeout lines steps receipts before → after ≡ before → (status ≡ s.DiskFault) ⊎ (status ≡ s.NoMemory)
-    → HasText timeout status Loaded lines faults steps receipts after
-unreported_text timeout status Loaded lines faults steps receipts before after replayed same which = record {
+pub unreported_text : (timeout : ℕ) (status : Status) (Loaded : LoadState → Type 0) (lines : List Line) (was now : Faults) (steps : List Step) (receipts : List Receipted) (before after : List ℕ) → HasReplayed timeout lines steps receipts before → after ≡ before → (status ≡ s.DiskFault) ⊎ (status ≡ s.NoMemory)
+    → HasText timeout status Loaded lines was now steps receipts after
+unreported_text timeout status Loaded lines was now steps receipts before after replayed same which = record {
   answered = replayed.answered;
   are = replayed.are;
   ending = [];
-  ends = silent_ends status Loaded faults lines replayed.answered replayed.all which;
+  ends = silent_ends status Loaded was now lines replayed.answered replayed.all which;
   rest = [];
   is = append-nil after ∙ same ∙ replayed.is ∙ sym (append-nil (reply_lines replayed.answered));
   whole = inr refl;
 }
 
 -- the text of a run whose journal was closed
-pub reported_text : (config : Config) (status : Status) (lines : List Line) (faults was now : Faults) (base : List Placed) (steps : List Step) (receipts : List Receipted) (before after : List ℕ) (past : Option Past) → HasReplayed config.buffer_timeout lines steps receipts before → (status ≡ s.Ok → HasRunOn config lines after past base steps receipts)
-    → (status ≡ s.Ok) ⊎ (after ≡ before) → HasDiskCause status was now → HasText config.buffer_timeout status (IsLoadedState past config.user_version base steps) lines faults steps receipts after
-reported_text config s.Ok lines faults was now base steps receipts before after past replayed ran unreported cause =
+pub reported_text : (config : Config) (status : Status) (lines : List Line) (first last was now : Faults) (base : List Placed) (steps : List Step) (receipts : List Receipted) (before after : List ℕ) (past : Option Past) → HasReplayed config.buffer_timeout lines steps receipts before → (status ≡ s.Ok → HasRunOn config lines after past base steps receipts)
+    → (status ≡ s.Ok) ⊎ (after ≡ before) → HasDiskCause status was now → HasText config.buffer_timeout status (IsLoadedState past config.user_version base steps) lines first last steps receipts after
+reported_text config s.Ok lines first last was now base steps receipts before after past replayed ran unreported cause =
     let r = ran refl in
     record {
       answered = r.replayed.answered;
@@ -133,18 +122,18 @@ reported_text config s.Ok lines faults was now base steps receipts before after 
       is = append-nil after ∙ r.reported ∙ ap (λ t. t ++ report_of r.state) r.replayed.is;
       whole = inr refl;
     }
-reported_text config s.DiskFault lines faults was now base steps receipts before after past replayed ran (inl ok) cause = absurd (let e : s.DiskFault ≡ s.Ok = ok in cc)
-reported_text config s.DiskFault lines faults was now base steps receipts before after past replayed ran (inr same) cause = unreported_text config.buffer_timeout s.DiskFault (IsLoadedState past config.user_version base steps) lines faults steps receipts before after replayed same (inl refl)
-reported_text config s.NoMemory lines faults was now base steps receipts before after past replayed ran (inl ok) cause = absurd (let e : s.NoMemory ≡ s.Ok = ok in cc)
-reported_text config s.NoMemory lines faults was now base steps receipts before after past replayed ran (inr same) cause = unreported_text config.buffer_timeout s.NoMemory (IsLoadedState past config.user_version base steps) lines faults steps receipts before after replayed same (inr refl)
-reported_text config s.SourceFault lines faults was now base steps receipts before after past replayed ran unreported cause = absurd cause
-reported_text config s.SinkFault lines faults was now base steps receipts before after past replayed ran unreported cause = absurd cause
-reported_text config (s.InputTooLong limit) lines faults was now base steps receipts before after past replayed ran unreported cause = absurd cause
-reported_text config (s.NotBuilt part) lines faults was now base steps receipts before after past replayed ran unreported cause = absurd cause
+reported_text config s.DiskFault lines first last was now base steps receipts before after past replayed ran (inl ok) cause = absurd (let e : s.DiskFault ≡ s.Ok = ok in cc)
+reported_text config s.DiskFault lines first last was now base steps receipts before after past replayed ran (inr same) cause = unreported_text config.buffer_timeout s.DiskFault (IsLoadedState past config.user_version base steps) lines first last steps receipts before after replayed same (inl refl)
+reported_text config s.NoMemory lines first last was now base steps receipts before after past replayed ran (inl ok) cause = absurd (let e : s.NoMemory ≡ s.Ok = ok in cc)
+reported_text config s.NoMemory lines first last was now base steps receipts before after past replayed ran (inr same) cause = unreported_text config.buffer_timeout s.NoMemory (IsLoadedState past config.user_version base steps) lines first last steps receipts before after replayed same (inr refl)
+reported_text config s.SourceFault lines first last was now base steps receipts before after past replayed ran unreported cause = absurd cause
+reported_text config s.SinkFault lines first last was now base steps receipts before after past replayed ran unreported cause = absurd cause
+reported_text config (s.InputTooLong limit) lines first last was now base steps receipts before after past replayed ran unreported cause = absurd cause
+reported_text config (s.NotBuilt part) lines first last was now base steps receipts before after past replayed ran unreported cause = absurd cause
 
 -- a refusal for a disk call names the one that failed last, also behind a closing that makes no call
-pub named_refusal : (T : Type 0) (refusal : Refusal) (was now later : Faults) (closed : Option DiskCall) → HasCause {T = T} (Err refusal) was now → IsClosedBy refusal closed → (IsSome closed → later ≡ now) → IsNamed refusal later
-named_refusal T (r.Disk call) was now later closed cause by idle = ap (λ (f : Faults). f.1) (idle (subst IsSome (sym by) refl)) ∙ cause.1
+pub named_refusal : (T : Type 0) (refusal : Refusal) (was now later : Faults) (closed : Option DiskCall) → HasCause {T = T} (Err refusal) was now → IsClosedBy refusal closed → (IsSome closed → later ≡ now) → IsNamed refusal was later
+named_refusal T (r.Disk call) was now later closed cause by idle = subst (IsNamed (r.Disk call) was) (sym (idle (subst IsSome (sym by) refl))) cause
 named_refusal T (r.Closed fault) was now later closed cause by idle = tt
 named_refusal T (r.TooLarge len limit) was now later closed cause by idle = tt
 named_refusal T (r.NoTx tx) was now later closed cause by idle = tt
@@ -156,7 +145,38 @@ named_refusal T (r.TxNumbersSpent highest) was now later closed cause by idle = 
 named_refusal T (r.Compacting phase) was now later closed cause by idle = tt
 named_refusal T (r.FileIdsSpent highest) was now later closed cause by idle = tt
 named_refusal T r.NoMemory was now later closed cause by idle = tt
-named_refusal T (r.FileFull len left) was now later closed cause by idle = tt
+
+-- ---- since an earlier moment
+
+earlier_rose : (was first now : ℕ) → was ≤ first → Rose first now → Rose was now
+earlier_rose was first now le rose = omega (arith, le, rose)
+
+earlier_line : (was first now : Faults) (lines : List Line) (answered : List Answered) (ending : List ℕ) → was.0 ≤ first.0 → IsDiskLine first now lines answered ending → IsDiskLine was now lines answered ending
+earlier_line was first now lines answered ending le line = (line.0, earlier_rose was.0 first.0 now.0 le line.1, line.2)
+
+earlier_ending : (status : Status) (Loaded : LoadState → Type 0) (was first now : Faults) (lines : List Line) (answered : List Answered) (ending : List ℕ) → was.0 ≤ first.0 → IsEnding status Loaded first now lines answered ending → IsEnding status Loaded was now lines answered ending
+earlier_ending s.Ok Loaded was first now lines answered ending le ends = ends
+earlier_ending s.SinkFault Loaded was first now lines answered ending le ends = ends
+earlier_ending s.DiskFault Loaded was first now lines answered ending le (inl none) = inl none
+earlier_ending s.DiskFault Loaded was first now lines answered ending le (inr line) = inr (earlier_line was first now lines answered ending le line)
+earlier_ending s.NoMemory Loaded was first now lines answered ending le (inl none) = inl none
+earlier_ending s.NoMemory Loaded was first now lines answered ending le (inr (inl line)) = inr (inl (earlier_line was first now lines answered ending le line))
+earlier_ending s.NoMemory Loaded was first now lines answered ending le (inr (inr report)) = inr (inr report)
+earlier_ending s.SourceFault Loaded was first now lines answered ending le ends = ends
+earlier_ending (s.InputTooLong limit) Loaded was first now lines answered ending le ends = ends
+earlier_ending (s.NotBuilt part) Loaded was first now lines answered ending le ends = ends
+
+-- what failed since the opening failed in the run
+pub earlier_text : (timeout : ℕ) (status : Status) (Loaded : LoadState → Type 0) (lines : List Line) (was first now : Faults) (steps : List Step) (receipts : List Receipted) (text : List ℕ) → was.0 ≤ first.0 → HasText timeout status Loaded lines first now steps receipts text → HasText timeout status Loaded lines was now steps receipts text
+earlier_text timeout status Loaded lines was first now steps receipts text le has = record {
+  answered = has.answered;
+  are = has.are;
+  ending = has.ending;
+  ends = earlier_ending status Loaded was first now lines has.answered has.ending le has.ends;
+  rest = has.rest;
+  is = has.is;
+  whole = has.whole;
+}
 
 -- ---- at first
 
@@ -164,15 +184,15 @@ none_answered : (timeout : ℕ) (lines : List Line) (steps : List Step) (receipt
 none_answered timeout lines steps receipts none = subst (λ ss. AreAnswered timeout lines ss receipts []) (sym none) (record { front = refl; commands = refl; numbered = tt; receipted = λ k d lt. absurd (omega (arith, lt)); answers = tt })
 
 -- where the journal wasn't opened
-pub unopened_text : (timeout : ℕ) (status : Status) (Loaded : LoadState → Type 0) (lines : List Line) (faults : Faults) (steps : List Step) (receipts : List Receipted) (text : List ℕ) → steps ≡ [] → text ≡ [] → IsEnding status Loaded faults lines [] [] → HasText timeout status Loaded lines faults steps receipts text
-unopened_text timeout status Loaded lines faults steps receipts text none empty ends = record { answered = []; are = none_answered timeout lines steps receipts none; ending = []; ends = ends; rest = []; is = append-nil text ∙ empty; whole = inr refl }
+pub unopened_text : (timeout : ℕ) (status : Status) (Loaded : LoadState → Type 0) (lines : List Line) (was now : Faults) (steps : List Step) (receipts : List Receipted) (text : List ℕ) → steps ≡ [] → text ≡ [] → IsEnding status Loaded was now lines [] [] → HasText timeout status Loaded lines was now steps receipts text
+unopened_text timeout status Loaded lines was now steps receipts text none empty ends = record { answered = []; are = none_answered timeout lines steps receipts none; ending = []; ends = ends; rest = []; is = append-nil text ∙ empty; whole = inr refl }
 
-pub opening_ends : (fault : OpenFault) (Loaded : LoadState → Type 0) (faults : Faults) (lines : List Line) → IsEnding (status_of_opening fault) Loaded faults lines [] []
-opening_ends (o.Disk call) Loaded faults lines = inl (refl, inl refl)
-opening_ends o.NoMemory Loaded faults lines = inl refl
-opening_ends (o.Directory fault) Loaded faults lines = (refl, refl)
-opening_ends (o.FileIdsSpent highest) Loaded faults lines = (refl, refl)
-opening_ends o.NotBuilt Loaded faults lines = (refl, refl)
+pub opening_ends : (fault : OpenFault) (Loaded : LoadState → Type 0) (was now : Faults) (lines : List Line) → IsEnding (status_of_opening fault) Loaded was now lines [] []
+opening_ends (o.Disk call) Loaded was now lines = inl (refl, inl refl)
+opening_ends o.NoMemory Loaded was now lines = inl refl
+opening_ends (o.Directory fault) Loaded was now lines = (refl, refl)
+opening_ends (o.FileIdsSpent highest) Loaded was now lines = (refl, refl)
+opening_ends o.NotBuilt Loaded was now lines = (refl, refl)
 
 -- of an engine that was just opened
 pub begun_played : {D : Type 0} (timeout : ℕ) (e : EngineOf D Kept) (text : List ℕ) (moment : ℕ) → e.appended ≡ 0 → e.durable ≡ 0 → e.since ≡ None → e.clock ≡ 0 → AreBegun moment (lists_of e.chronicle) → text ≡ [] → HasPlayed timeout [] (λ label. 0) 1 e text

@@ -15,7 +15,7 @@ use Rattle.amq_model.specs.Files.{Files, Image, IsReading}
 use Rattle.amq_model.specs.Leaves.{Told}
 use Rattle.amq_model.specs.Texts.{report_of, refusal_line}
 use Rattle.amq_io.specs.Cause.{Rose, Faults}
-use Rattle.amq_engine.specs.OneFile.{IsEmpty}
+use Rattle.amq_engine.specs.Directory.{IsEmpty}
 use Rattle.amq_engine.specs.Lists.{Lists}
 use Rattle.amq_engine.specs.declared.chronicle.Kept.{Kept}
 use Rattle.amq_engine.specs.declared.chronicle.Receipted.{Receipted}
@@ -73,11 +73,11 @@ pub record HasRun (config : Config) (lines : List Line) (text : List ℕ) (old n
   pub began : Told old (HasBase base)
   pub ran : HasRunOn config lines text new base steps receipts
 
--- the report of what was loaded is added, and the directory is as it was
-pub record IsReported (before after : List ℕ) (old new : Option Past) : Type 0 where
+-- the report of what was loaded of the files up to the last is added, and the directory is as it was
+pub record IsReported (last : ℕ) (before after : List ℕ) (old new : Option Past) : Type 0 where
   pub state : LoadState
   pub lines : after ≡ before ++ report_of state
-  pub loaded : Told old (λ s. (user_version : ℕ) (len : ℕ) → IsLoaded user_version len state s)
+  pub loaded : Told old (λ s. (user_version : ℕ) (all : ℕ) → IsLoaded user_version last all state s)
   pub same : content_of new ≡ content_of old
 
 -- why a run on an open journal ended so
@@ -100,17 +100,19 @@ AreAll lines answered = length answered ≡ length lines
 abbrev pub IsReport : (LoadState → Type 0) → List Line → List Answered → List ℕ → Type 0
 IsReport Loaded lines answered ending = AreAll lines answered × ((state : LoadState) × Loaded state × (ending ≡ report_of state))
 
--- a line of the script wasn't answered, and this is the line of the disk call that failed last
-abbrev pub IsDiskLine : Faults → List Line → List Answered → List ℕ → Type 0
-IsDiskLine faults lines answered ending = (length answered < length lines) × ((call : DiskCall) × (faults.1 ≡ Some call) × (ending ≡ refusal_line (r.Disk call)))
+-- a line of the script wasn't answered, a disk call has failed in this run, and this is the line of the one that failed last
+abbrev pub IsDiskLine : Faults → Faults → List Line → List Answered → List ℕ → Type 0
+IsDiskLine was now lines answered ending = (length answered < length lines) × Rose was.0 now.0 × ((call : DiskCall) × (now.1 ≡ Some call) × (ending ≡ refusal_line (r.Disk call)))
 
 -- What stands behind the lines of what was answered: the report, the line of a disk call that failed, or nothing. With a disk fault nothing stands there only where the opening was refused, or where all lines were answered.
-abbrev pub IsEnding : Status → (LoadState → Type 0) → Faults → List Line → List Answered → List ℕ → Type 0
-IsEnding s.Ok Loaded faults lines answered ending = IsReport Loaded lines answered ending
-IsEnding s.SinkFault Loaded faults lines answered ending = IsReport Loaded lines answered ending
-IsEnding s.DiskFault Loaded faults lines answered ending = ((ending ≡ []) × ((answered ≡ []) ⊎ AreAll lines answered)) ⊎ IsDiskLine faults lines answered ending
-IsEnding s.NoMemory Loaded faults lines answered ending = (ending ≡ []) ⊎ IsDiskLine faults lines answered ending ⊎ IsReport Loaded lines answered ending
-IsEnding _ Loaded faults lines answered ending = (ending ≡ []) × (answered ≡ [])
+abbrev pub IsEnding : Status → (LoadState → Type 0) → Faults → Faults → List Line → List Answered → List ℕ → Type 0
+IsEnding s.Ok Loaded was now lines answered ending = IsReport Loaded lines answered ending
+IsEnding s.SinkFault Loaded was now lines answered ending = IsReport Loaded lines answered ending
+IsEnding s.DiskFault Loaded was now lines answered ending = ((ending ≡ []) × ((answered ≡ []) ⊎ AreAll lines answered)) ⊎ IsDiskLine was now lines answered ending
+IsEnding s.NoMemory Loaded was now lines answered ending = (ending ≡ []) ⊎ IsDiskLine was now lines answered ending ⊎ IsReport Loaded lines answered ending
+IsEnding s.SourceFault Loaded was now lines answered ending = (ending ≡ []) × (answered ≡ [])
+IsEnding (s.InputTooLong limit) Loaded was now lines answered ending = (ending ≡ []) × (answered ≡ [])
+IsEnding (s.NotBuilt part) Loaded was now lines answered ending = (ending ≡ []) × (answered ≡ [])
 
 -- memory was short
 abbrev pub is_short : Status → Bool
@@ -118,11 +120,11 @@ is_short s.NoMemory = true
 is_short _ = false
 
 -- The text of a run with this status, however it ended: a front of the lines of what was answered and then of an ending, and the whole of them unless memory was short.
-pub record HasText (timeout : ℕ) (status : Status) (Loaded : LoadState → Type 0) (lines : List Line) (faults : Faults) (steps : List Step) (receipts : List Receipted) (text : List ℕ) : Type 0 where
+pub record HasText (timeout : ℕ) (status : Status) (Loaded : LoadState → Type 0) (lines : List Line) (was now : Faults) (steps : List Step) (receipts : List Receipted) (text : List ℕ) : Type 0 where
   pub answered : List Answered
   pub are : AreAnswered timeout lines steps receipts answered
   pub ending : List ℕ
-  pub ends : IsEnding status Loaded faults lines answered ending
+  pub ends : IsEnding status Loaded was now lines answered ending
   pub rest : List ℕ
   pub is : text ++ rest ≡ reply_lines answered ++ ending
   pub whole : (is_short status ≡ true) ⊎ (rest ≡ [])
@@ -154,11 +156,11 @@ is_past_script (s.NotBuilt u.Directory) = true
 is_past_script _ = false
 
 -- What was written, with every status: a front of the text of a run of the source's lines, and all of it unless the sink failed or memory was short. Where the script wasn't read there is no line and no text.
-pub record IsOutput (timeout : ℕ) (status : Status) (Loaded : LoadState → Type 0) (left_old left_new : Option (List ℕ)) (faults : Faults) (sink_old sink_new : ℕ) (taken_old taken_new : Option (List ℕ)) (steps : List Step) (receipts : List Receipted) : Type 0 where
+pub record IsOutput (timeout : ℕ) (status : Status) (Loaded : LoadState → Type 0) (left_old left_new : Option (List ℕ)) (was now : Faults) (sink_old sink_new : ℕ) (taken_old taken_new : Option (List ℕ)) (steps : List Step) (receipts : List Receipted) : Type 0 where
   pub lines : List Line
   pub text : List ℕ
   pub said : ((is_past_script status ≡ false) × (lines ≡ []) × (text ≡ [])) ⊎ IsSaid lines left_old left_new
-  pub has : HasText timeout status Loaded lines faults steps receipts text
+  pub has : HasText timeout status Loaded lines was now steps receipts text
   pub part : IsPartWritten text taken_old taken_new
   pub whole : IsWritten text taken_old taken_new ⊎ Rose sink_old sink_new ⊎ (is_short status ≡ true)
 

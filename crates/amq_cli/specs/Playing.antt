@@ -1,12 +1,22 @@
 -- What is so of a replay under way.
-use Rattle.std.specs.Prelude.{◌≡◌, ◌↔◌, ℕ, ◌+◌, ◌<◌, ◌≤◌, List, [], ◌∷◌, ◌++◌, length, map, Option, None, Some, All}
+use Rattle.std.specs.Prelude.{◌≡◌, ◌⊎◌, ◌↔◌, ℕ, ◌+◌, ◌<◌, ◌≤◌, List, [], ◌∷◌, ◌++◌, length, map, Option, None, Some, All}
 use Rattle.std.specs.List.{filter_map}
 use Rattle.amq_model.specs.declared.script.Line.{Line}
 use Rattle.amq_model.specs.declared.history.Step.{Step}
 use Rattle.amq_engine.specs.declared.chronicle.Kept.{Kept}
 use Rattle.amq_engine.specs.declared.chronicle.Receipted.{Receipted}
+use Rattle.amq_engine.specs.Lists.{Lists}
 use Rattle.amq_engine.specs.Engine.{EngineOf}
 use Rattle.amq_cli.specs.Replay.{Answered, all_commanded, label_number, placed_at, counted, clock_of, reply_lines, AreLineAnswers, AreNumbered, IsReceipted}
+
+-- the same receipts, or one more
+abbrev pub Grows : List Receipted → List Receipted → Type 0
+Grows old new = (new ≡ old) ⊎ ((r : Receipted) × (new ≡ old ++ r ∷ []))
+
+-- What a call leaves in the chronicle that ends a replay: no step more. It may have made appends durable before it failed.
+pub record HasNoStep (old new : Lists) : Type 0 where
+  pub steps : new.steps ≡ old.steps
+  pub receipts : Grows old.receipts new.receipts
 
 -- The numbers of the engine behind these lines: its clock, how many appends there were and how many are durable, and since when the first of the others waits.
 pub record AreNumbers (answered : List Answered) (receipts : List Receipted) (clock appended durable : ℕ) (since : Option ℕ) : Type 0 where

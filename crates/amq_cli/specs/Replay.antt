@@ -78,7 +78,11 @@ with_number n command = command
 abbrev pub sent : List Answered → Line → Option Command
 sent before (l.Plain command) = Some command
 sent before (l.Labelled label command) = Some (with_number (label_number before label) command)
-sent before _ = None
+sent before (l.Bind label tx) = None
+sent before (l.Tick now) = None
+sent before l.Reclaim = None
+sent before l.Compact = None
+sent before (l.Step steps) = None
 
 -- the command of a line behind others, with its answer
 abbrev pub commanded : List Answered → Answered → Option (Command × Answer)
@@ -127,10 +131,16 @@ IsTickAnswer timeout before now _ = ⊥
 -- the answer of a line behind others: that of a command is its step's, a bind has none, and a tick is answered as it may be
 abbrev pub IsLineAnswer : ℕ → List Answered → Line → Option Answer → Type 0
 IsLineAnswer timeout before (l.Tick now) (Some answer) = IsTickAnswer timeout before now answer
+IsLineAnswer timeout before (l.Tick now) None = ⊥
 IsLineAnswer timeout before (l.Bind label tx) None = Unit {0}
+IsLineAnswer timeout before (l.Bind label tx) (Some answer) = ⊥
 IsLineAnswer timeout before (l.Plain command) (Some answer) = Unit {0}
+IsLineAnswer timeout before (l.Plain command) None = ⊥
 IsLineAnswer timeout before (l.Labelled label command) (Some answer) = Unit {0}
-IsLineAnswer timeout before _ _ = ⊥
+IsLineAnswer timeout before (l.Labelled label command) None = ⊥
+IsLineAnswer timeout before l.Reclaim answer = ⊥
+IsLineAnswer timeout before l.Compact answer = ⊥
+IsLineAnswer timeout before (l.Step steps) answer = ⊥
 
 -- each line behind those before it
 abbrev pub AreLineAnswers : ℕ → List Answered → List Answered → Type 0

@@ -1,7 +1,12 @@
 //! What a crash leaves at every moment of a run, loaded and compared with what may be kept.
+ghost use Rattle.std.specs.Prelude.{◌≡◌, ◌^◌, ◌<◌};
+ghost use Rattle.amq_model.specs.Configs.{IsConfig};
+
+use crate::reload::add_records;
 use crate::{Status, offline_with};
 use amq_engine::Kept;
-use amq_io::{MemoryDisk, MemorySink, MemorySource, Pick};
+use amq_header::data_name;
+use amq_io::{Disk, MemoryDisk, MemorySink, MemorySource, Pick};
 use amq_model::{Config, Name, Placed, Record};
 use amq_scan::scan;
 use amq_state::{Loading, plain_result};
@@ -20,6 +25,14 @@ const SCRIPT: &[u8] =
 const TRANSACTIONS: &[u8] =
     b"add 1 7 -\nbegin a\naddtx a 2 7 -\nflush\naddtx a 3 7 6a\ncommit a\nbegin b\ndeletetx b 1 -\nprepare b 01\nbegin c\nupdatetx c 2 7 -\nrollback c\n";
 
+/// Four files have records of it: a transaction is flushed before its end, the next one is prepared in the
+/// file behind that of its records, and a third one goes back.
+const MOVES: &[u8] =
+    b"add 1 7 6869\nbegin a\naddtx a 2 7 -\nflush\naddtx a 3 7 6a\ncommit a\nadd 4 7 -\nupdate 1 8 6b\nbegin b\ndeletetx b 4 -\naddtx b 5 7 -\nprepare b 01\nflush\nbegin c\nupdatetx c 1 9 -\nrollback c\ndelete 1\nadd 6 7 -\nadd 7 7 79\n";
+
+/// No directory of these tests has more files.
+const MOST_FILES: u64 = 8;
+
 /// A file and a buffer have room for several records.
 const SMALL: Config = Config {
     file_size: 256,
@@ -32,6 +45,30 @@ const SMALL: Config = Config {
     user_version: 0,
 };
 
+/// A file has room for four or five short records, and two files are made at first.
+const TWO_FILES: Config = Config {
+    file_size: 128,
+    min_files: 2,
+    pool_files: None,
+    compact_min_files: 10,
+    compact_percentage: 30,
+    buffer_size: 64,
+    buffer_timeout: 3,
+    user_version: 0,
+};
+
+/// As above, but three files.
+const THREE_FILES: Config = Config {
+    min_files: 3,
+    ..TWO_FILES
+};
+
+/// As above, but five files, which are more than are used.
+const FIVE_FILES: Config = Config {
+    min_files: 5,
+    ..TWO_FILES
+};
+
 /// What a run left.
 #[derive(Drop)]
 struct Left {
@@ -42,14 +79,16 @@ struct Left {
 }
 
 /// Replays the script on a disk whose call of this number fails, none for 0: the list, four calls that
-/// make the file, a write and a sync for each flush and for the closing, and the read at the end.
-fn run(alloc: Global, script: &[u8], fails: u64) -> Result<Left, Fail> {
+/// make a file, a write and a sync for each flush and for the closing, and the reads at the end.
+fn run_with(alloc: Global, config: Config, script: &[u8], fails: u64) -> Result<Left, Fail>
+    requires { IsConfig config }
+{
     let disk = MemoryDisk::failing(alloc, Vec::new(alloc), vec![in alloc; fails]?)?;
     let script = Vec::from_slice(alloc, script)?;
     let mut source = MemorySource::new(script, 4096, Vec::new(alloc));
     let mut sink = MemorySink::new(alloc, 4096, Vec::new(alloc));
     let words = ["folder", "replay"];
-    let (status, disk, kept) = offline_with(alloc, SMALL, &words, disk, &mut source, &mut sink);
+    let (status, disk, kept) = offline_with(alloc, config, &words, disk, &mut source, &mut sink);
     let text = Vec::from_slice(alloc, sink.bytes())?;
     Ok(Left {
         status,
@@ -59,22 +98,38 @@ fn run(alloc: Global, script: &[u8], fails: u64) -> Result<Left, Fail> {
     })
 }
 
-/// The records of the one file, none where it isn't there. The plain program gives the same result of
-/// them as the load.
+/// The same with files of 256 bytes.
+fn run(alloc: Global, script: &[u8], fails: u64) -> Result<Left, Fail> {
+    run_with(alloc, SMALL, script, fails)
+}
+
+/// Appends the records of a file of this id.
+fn push_records(alloc: Global, id: u64, bytes: &[u8], records: &mut Vec<Placed>) -> Result<(), Fail>
+    requires { id < 2 ^ 31 }
+{
+    for spot in scan(alloc, bytes, id as u32, 2)?.iter() {
+        records.push(Placed {
+            file: id,
+            place: spot.place,
+            compact: spot.compact,
+            rec: spot.rec.to_record(alloc)?,
+        })?;
+    }
+    Ok(())
+}
+
+/// The records of the files that are there. The plain program gives the same result of them as the load.
 fn records(rt: &impl Abort, alloc: Global, disk: &MemoryDisk) -> Result<Vec<Placed>, Fail> {
     let mut records = Vec::new(alloc);
     let mut loading = Loading::new(alloc);
-    if let Some(bytes) = disk.look(DATA_FILE)? {
-        let spots = scan(alloc, &bytes, 1, 2)?;
-        for spot in spots.iter() {
-            records.push(Placed {
-                file: 1,
-                place: spot.place,
-                compact: spot.compact,
-                rec: spot.rec.to_record(alloc)?,
-            })?;
-        }
-        loading.feed_file(1, &spots)?;
+    for id in 1..=MOST_FILES {
+        let name = data_name(alloc, id)?;
+        let bytes = match disk.look(name.as_str())? {
+            Some(bytes) => bytes,
+            None => Vec::new(alloc),
+        };
+        push_records(alloc, id, &bytes, &mut records)?;
+        add_records(alloc, id, &bytes, &mut loading)?;
     }
     assert_eq!(rt; loading.finish()?, plain_result(alloc, &records)?);
     Ok(records)
@@ -123,13 +178,21 @@ fn entries(records: &[Placed], number: u64) -> usize {
         .count()
 }
 
-/// Each end that counts its transaction's records before it has all of those in the history.
+/// How many of those stand in this file.
+fn entries_in(records: &[Placed], number: u64, file: u64) -> usize {
+    records
+        .iter()
+        .filter(|placed| placed.file == file && is_entry(placed, number))
+        .count()
+}
+
+/// Each end that counts its transaction's records before it in its file has all of those in the history.
 fn check_whole(rt: &impl Abort, records: &[Placed], history: &[Placed]) {
     for (i, placed) in records.iter().enumerate() {
         if let Record::Commit { tx, count } | Record::Prepare { tx, count, .. } = placed.rec {
             let (before, _) = records.split_at(i);
-            if entries(before, tx) == count as usize {
-                assert_eq!(rt; entries(history, tx), count as usize);
+            if entries_in(before, tx, placed.file) == count as usize {
+                assert_eq!(rt; entries(before, tx), entries(history, tx));
             }
         }
     }
@@ -155,19 +218,23 @@ fn check(rt: &impl Abort, alloc: Global, records: &[Placed], kept: &Kept) -> Res
 #[test]
 fn a_crash_at_every_moment(rt: HostRuntime) -> Result<(), Fail> {
     let alloc = rt.alloc();
-    let counts: [(u64, usize, usize, usize); 13] = [
+    let counts: [(u64, usize, usize, usize); 17] = [
         (1, 0, 0, 0),
         (2, 0, 0, 0),
         (3, 0, 0, 0),
         (4, 0, 0, 0),
         (5, 0, 0, 0),
         (6, 0, 0, 0),
-        (7, 2, 0, 0),
-        (8, 2, 2, 2),
-        (9, 4, 2, 2),
-        (10, 4, 4, 4),
-        (11, 6, 4, 4),
-        (12, 6, 6, 6),
+        (7, 0, 0, 0),
+        (8, 0, 0, 0),
+        (9, 0, 0, 0),
+        (10, 0, 0, 0),
+        (11, 2, 0, 0),
+        (12, 2, 2, 2),
+        (13, 4, 2, 2),
+        (14, 4, 4, 4),
+        (15, 6, 4, 4),
+        (16, 6, 6, 6),
         (0, 6, 6, 6),
     ];
     for (call, written, synced, zeroed) in counts {
@@ -190,7 +257,7 @@ fn a_crash_at_every_moment(rt: HostRuntime) -> Result<(), Fail> {
 #[test]
 fn the_second_flush_fails(rt: HostRuntime) -> Result<(), Fail> {
     let alloc = rt.alloc();
-    let left = run(alloc, b"add 1 7 6869\nflush\nadd 2 7 6869\nflush\n", 9)?;
+    let left = run(alloc, b"add 1 7 6869\nflush\nadd 2 7 6869\nflush\n", 13)?;
     assert_eq!(rt; left.status, Status::DiskFault);
     assert_eq!(rt; left.status.code(), 6);
     assert_eq!(rt;
@@ -217,7 +284,7 @@ fn the_second_flush_fails(rt: HostRuntime) -> Result<(), Fail> {
 #[test]
 fn a_record_lost_in_the_middle(rt: HostRuntime) -> Result<(), Fail> {
     let alloc = rt.alloc();
-    let left = run(alloc, b"add 1 7 -\nadd 2 7 -\nadd 3 7 -\nflush\n", 7)?;
+    let left = run(alloc, b"add 1 7 -\nadd 2 7 -\nadd 3 7 -\nflush\n", 11)?;
     let mut file = left.disk.look(DATA_FILE)?.ok_or("no file")?;
     let middle = file.as_mut_slice().get_mut(39..62).ok_or("a short file")?;
     middle.fill(0);
@@ -236,7 +303,7 @@ fn a_record_lost_in_the_middle(rt: HostRuntime) -> Result<(), Fail> {
 #[test]
 fn a_crash_at_every_moment_of_transactions(rt: HostRuntime) -> Result<(), Fail> {
     let alloc = rt.alloc();
-    for call in 0..=12 {
+    for call in 0..=16 {
         let left = run(alloc, TRANSACTIONS, call)?;
         for pick in [Pick::Keep, Pick::Revert, Pick::Fill(0)] {
             let records = records(&rt, alloc, &left.disk.crash(pick)?)?;
@@ -246,13 +313,56 @@ fn a_crash_at_every_moment_of_transactions(rt: HostRuntime) -> Result<(), Fail> 
     Ok(())
 }
 
+/// For each call that fails, and for none, what a crash then leaves of a run of `MOVES` is a kept part of
+/// the history. The run has this many calls, of which the reads of four files are the last.
+fn check_moves(rt: &impl Abort, alloc: Global, config: Config, calls: u64) -> Result<(), Fail>
+    requires { IsConfig config }
+{
+    let whole = run_with(alloc, config, MOVES, 0)?;
+    assert_eq!(rt; whole.status, Status::Ok);
+    assert_eq!(rt; whole.disk.moment(), calls);
+    let (history, durable) = history(alloc, &whole.kept)?;
+    assert_eq!(rt; (history.len(), durable), (14, 14));
+    assert_eq!(rt;
+        history.as_slice().last().map(|placed| placed.file),
+        Some(4)
+    );
+    for call in 0..=calls {
+        let left = run_with(alloc, config, MOVES, call)?;
+        for pick in [Pick::Keep, Pick::Revert, Pick::Fill(0)] {
+            let records = records(rt, alloc, &left.disk.crash(pick)?)?;
+            check(rt, alloc, &records, &left.kept)?;
+        }
+    }
+    Ok(())
+}
+
+/// Nine calls of the opening, two for each of eight flushes, four for each of the two files that are
+/// prepared on the way, and four reads.
+#[test]
+fn a_crash_at_every_moment_of_two_files(rt: HostRuntime) -> Result<(), Fail> {
+    check_moves(&rt, rt.alloc(), TWO_FILES, 37)
+}
+
+/// The third file is prepared at the opening, and the fourth one on the way.
+#[test]
+fn a_crash_at_every_moment_of_three_files(rt: HostRuntime) -> Result<(), Fail> {
+    check_moves(&rt, rt.alloc(), THREE_FILES, 37)
+}
+
+/// All files are prepared at the opening, and one more.
+#[test]
+fn a_crash_at_every_moment_of_five_files(rt: HostRuntime) -> Result<(), Fail> {
+    check_moves(&rt, rt.alloc(), FIVE_FILES, 41)
+}
+
 /// The sync of the second flush fails, and a crash loses one record of the buffer: without its add the
 /// commit has no effect, and without its delete the prepare leaves nothing in doubt. For each record that
 /// is lost, where it stands, and the counts of what is live and of what is in doubt.
 #[test]
 fn each_record_of_a_buffer_lost_in_turn(rt: HostRuntime) -> Result<(), Fail> {
     let alloc = rt.alloc();
-    let left = run(alloc, TRANSACTIONS, 9)?;
+    let left = run(alloc, TRANSACTIONS, 13)?;
     assert_eq!(rt; left.status, Status::DiskFault);
     let (history, durable) = history(alloc, &left.kept)?;
     assert_eq!(rt; (history.len(), durable), (6, 2));

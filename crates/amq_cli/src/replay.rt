@@ -7,7 +7,7 @@ ghost use Rattle.amq_cli.specs.Offline.{lists_of};
 ghost use Rattle.amq_cli.specs.Replay.{Answered, sent, with_number, begun_number, is_begin, line_of, HasEnded, HasReplayed, IsLast, IsClosedBy, is_built, is_for_memory};
 ghost use Rattle.amq_cli.specs.Labelled.{number_in};
 ghost use Rattle.amq_cli.specs.Outcomes.{answer_in, text_in};
-ghost use Rattle.amq_cli.specs.Playing.{HasPlayed, IsPlaying, AreNumbersOf};
+ghost use Rattle.amq_cli.specs.Playing.{HasPlayed, HasNoStep, IsPlaying, AreNumbersOf};
 
 use crate::labels::Labels;
 use amq_engine::{Engine, Kept};
@@ -39,7 +39,7 @@ fn give<D: Disk>(
     requires open { engine.old.closed ≡ None }
     requires few { number.old < 2 ^ 64 - 1 }
     ensures played { (answered : List Answered) (line : Line) → sent answered line ≡ Some command → IsPlaying engine.old.config.buffer_timeout answered number.old engine.old → IfOk result (λ answer. IsPlaying engine.old.config.buffer_timeout (answered ++ (line, Some answer) ∷ []) number.new engine.new) }
-    ensures kept { OnErr result (lists_of engine.new.chronicle ≡ lists_of engine.old.chronicle) }
+    ensures kept { OnErr result (HasNoStep (lists_of engine.old.chronicle) (lists_of engine.new.chronicle)) }
     ensures last { IfErr result IsLast }
     ensures closes { IfErr result (λ refusal. IsClosedBy refusal engine.new.closed) }
     ensures next { number.new ≤ number.old + 1 }
@@ -124,7 +124,7 @@ fn give_labelled<D: Disk>(
     requires open { engine.old.closed ≡ None }
     requires few { number.old < 2 ^ 64 - 1 }
     ensures played { (answered : List Answered) → AreNumbersOf (number_in labels.old) answered → IsPlaying engine.old.config.buffer_timeout answered number.old engine.old → IfOk result (λ answer. IsPlaying engine.old.config.buffer_timeout (answered ++ (Line.Labelled label.now command, Some answer) ∷ []) number.new engine.new × AreNumbersOf (number_in labels.new) (answered ++ (Line.Labelled label.now command, Some answer) ∷ [])) }
-    ensures kept { OnErr result (lists_of engine.new.chronicle ≡ lists_of engine.old.chronicle) }
+    ensures kept { OnErr result (HasNoStep (lists_of engine.old.chronicle) (lists_of engine.new.chronicle)) }
     ensures last { IfErr result IsLast }
     ensures closes { IfErr result (λ refusal. IsClosedBy refusal engine.new.closed) }
     ensures next { number.new ≤ number.old + 1 }
@@ -163,7 +163,7 @@ fn answer_line<D: Disk>(
     requires few { number.old < 2 ^ 64 - 1 }
     ensures played { (answered : List Answered) → AreNumbersOf (number_in labels.old) answered → IsPlaying engine.old.config.buffer_timeout answered number.old engine.old → IfOk result (λ outcome. IsPlaying engine.old.config.buffer_timeout (answered ++ (line, answer_in outcome) ∷ []) number.new engine.new × AreNumbersOf (number_in labels.new) (answered ++ (line, answer_in outcome) ∷ [])) }
     ensures text { IfOk result (λ outcome. text_in outcome ≡ line_of (line, answer_in outcome)) }
-    ensures kept { OnErr result (lists_of engine.new.chronicle ≡ lists_of engine.old.chronicle) }
+    ensures kept { OnErr result (HasNoStep (lists_of engine.old.chronicle) (lists_of engine.new.chronicle)) }
     ensures last { IfErr result IsLast }
     ensures closes { IfErr result (λ refusal. IsClosedBy refusal engine.new.closed) }
     ensures next { number.new ≤ number.old + 1 }

@@ -1,13 +1,12 @@
 //! Running the commands of a script on a disk.
-ghost use Rattle.std.specs.Prelude.{◌≡◌, ◌≢◌, ◌⊎◌, ◌≤◌, true, [], length, All, IsTrue, None, IfSome};
+ghost use Rattle.std.specs.Prelude.{◌≡◌, ◌≢◌, ◌⊎◌, ◌^◌, ◌<◌, ◌≤◌, true, [], length, All, IsTrue, None, IfSome};
 ghost use Rattle.amq_model.specs.Answers.{history_of};
 ghost use Rattle.amq_model.specs.Configs.{IsConfig};
 ghost use Rattle.amq_model.specs.Legal.{AreLegal};
-ghost use Rattle.amq_model.specs.Leaves.{Leaves, Unchanged, LeavesNothingNew, Told, IsThere};
-ghost use Rattle.amq_engine.specs.Engine.{data_name, AreBegun, IsChronicle};
+ghost use Rattle.amq_model.specs.Leaves.{Leaves, Unchanged, LeavesNothingNew, Told};
 ghost use Rattle.amq_engine.specs.Receipts.{IsCrashSafe, IsLastCount};
 ghost use Rattle.amq_cli.specs.Offline.{lists_of, HasBase, HasRun, HasRunCause, HasText, IsLoadedState, IsReported, HasRunOn, HasDiskCause, is_unwritten};
-ghost use Rattle.amq_cli.specs.Loaded.{content_of};
+ghost use Rattle.amq_cli.specs.Loaded.{HasFilesTo, content_of};
 ghost use Rattle.amq_cli.specs.Playing.{HasPlayed};
 ghost use Rattle.amq_cli.specs.Replay.{is_built};
 ghost use Rattle.amq_cli.specs.Statuses.{status_of, status_of_opening};
@@ -34,7 +33,7 @@ pub fn run<D: Disk>(
     requires built { All (λ line. IsTrue (is_built line)) lines.items }
     requires empty { text.old.items ≡ [] }
     ensures run { result.0 ≡ Status.Ok → HasRun config lines.items text.new.items (D.past disk) (D.past result.1) result.2.base result.2.steps.items result.2.receipts.items }
-    ensures text { HasText config.buffer_timeout result.0 (IsLoadedState (D.past result.1) config.user_version result.2.base result.2.steps.items) lines.items (D.faults result.1) result.2.steps.items result.2.receipts.items text.new.items }
+    ensures text { HasText config.buffer_timeout result.0 (IsLoadedState (D.past result.1) config.user_version result.2.base result.2.steps.items) lines.items (D.faults disk) (D.faults result.1) result.2.steps.items result.2.receipts.items text.new.items }
     ensures unbuilt { is_unwritten result.0 ≡ true → text.new.items ≡ [] }
     ensures cause { HasRunCause result.0 (D.past disk) (D.past result.1) (D.faults disk) (D.faults result.1) }
     ensures base { result.2.base ≡ [] }
@@ -71,7 +70,7 @@ fn run_on<D: Disk>(
     requires base { engine.chronicle.base ≡ [] }
     requires begun { HasPlayed engine.config.buffer_timeout [] (λ label. 0) 1 engine text.old.items }
     ensures run { result.0 ≡ Status.Ok → HasRunOn engine.config lines.items text.new.items (D.past result.1) result.2.base result.2.steps.items result.2.receipts.items }
-    ensures text { HasText engine.config.buffer_timeout result.0 (IsLoadedState (D.past result.1) engine.config.user_version result.2.base result.2.steps.items) lines.items (D.faults result.1) result.2.steps.items result.2.receipts.items text.new.items }
+    ensures text { HasText engine.config.buffer_timeout result.0 (IsLoadedState (D.past result.1) engine.config.user_version result.2.base result.2.steps.items) lines.items (D.faults engine.disk) (D.faults result.1) result.2.steps.items result.2.receipts.items text.new.items }
     ensures cause { HasDiskCause result.0 (D.faults engine.disk) (D.faults result.1) }
     ensures base { result.2.base ≡ [] }
     ensures legal { AreLegal result.2.base result.2.steps.items engine.config }
@@ -81,10 +80,11 @@ fn run_on<D: Disk>(
     ensures receipted { result.2.receipts.items ≢ [] }
 {
     let played = replay(alloc, &mut engine, lines, text);
+    let last = engine.file();
     let (mut disk, chronicle, closed) = engine.close();
     let status = match played {
         Ok(()) => match closed {
-            Ok(_) => add_report(alloc, &mut disk, text),
+            Ok(_) => add_report(alloc, &mut disk, last, text),
             Err(refusal) => status_of_refusal(refusal),
         },
         Err(refusal) => status_of_refusal(refusal),
@@ -93,16 +93,17 @@ fn run_on<D: Disk>(
 }
 
 /// Loads the journal that was closed, and adds the report to the text.
-fn add_report<D: Disk>(alloc: Global, disk: &mut D, text: &mut Vec<u8>) -> Status
-    requires there { Told (D.past disk.old) (IsThere data_name) }
-    ensures reported { result ≡ Status.Ok → IsReported text.old.items text.new.items (D.past disk.old) (D.past disk.new) }
+fn add_report<D: Disk>(alloc: Global, disk: &mut D, last: u64, text: &mut Vec<u8>) -> Status
+    requires number { last < 2 ^ 31 }
+    requires there { Told (D.past disk.old) (HasFilesTo last) }
+    ensures reported { result ≡ Status.Ok → IsReported last text.old.items text.new.items (D.past disk.old) (D.past disk.new) }
     ensures unreported { (result ≡ Status.Ok) ⊎ (text.new.items ≡ text.old.items) }
     ensures cause { HasDiskCause result (D.faults disk.old) (D.faults disk.new) }
     ensures later { (D.faults disk.old).0 ≤ (D.faults disk.new).0 }
     ensures only_asks { Leaves Unchanged Unchanged (D.past disk.old) (D.past disk.new) }
     ensures moment { D.moment disk.old ≤ D.moment disk.new }
 {
-    let state = match reload(alloc, disk) {
+    let state = match reload(alloc, disk, last) {
         Ok(state) => state,
         Err(DiskFault::Disk(_)) => return Status::DiskFault,
         Err(DiskFault::NoMemory) => return Status::NoMemory,

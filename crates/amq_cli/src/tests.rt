@@ -1,12 +1,16 @@
 ghost use Rattle.std.specs.Prelude.{◌≡◌, ◌≤◌};
+ghost use Rattle.amq_model.specs.Configs.{IsConfig};
 
 use crate::{Status, Unbuilt, offline, offline_with};
+use amq_engine::Kept;
 use amq_io::{Disk, MemoryDisk, MemorySink, MemorySource};
 use amq_model::{Config, Name};
 use std::alloc::Global;
 use std::test::Fail;
 
 const DATA_FILE: &str = "activemq-data-1.amq";
+
+const SECOND_FILE: &str = "activemq-data-2.amq";
 
 const WORDS: &[&str] = &["folder", "replay"];
 
@@ -18,6 +22,30 @@ const SMALL: Config = Config {
     compact_min_files: 10,
     compact_percentage: 30,
     buffer_size: 64,
+    buffer_timeout: 3,
+    user_version: 0,
+};
+
+/// A file has room for one short record.
+const NARROW: Config = Config {
+    file_size: 64,
+    min_files: 2,
+    pool_files: None,
+    compact_min_files: 10,
+    compact_percentage: 30,
+    buffer_size: 64,
+    buffer_timeout: 3,
+    user_version: 0,
+};
+
+/// The buffer has room for any record that a file has room for.
+const SHORT: Config = Config {
+    file_size: 1024,
+    min_files: 2,
+    pool_files: None,
+    compact_min_files: 10,
+    compact_percentage: 30,
+    buffer_size: 501_760,
     buffer_timeout: 3,
     user_version: 0,
 };
@@ -39,6 +67,7 @@ const LONG_TEXT: &[u8] =
 struct Left {
     status: Status,
     disk: MemoryDisk,
+    kept: Kept,
     text: Vec<u8>,
 }
 
@@ -57,6 +86,31 @@ const WHOLE: Streams = Streams {
     sink: 0,
 };
 
+/// Runs the command with this configuration.
+fn run_with(
+    alloc: Global,
+    config: Config,
+    words: &[&str],
+    script: &[u8],
+    disk: MemoryDisk,
+    streams: &Streams,
+) -> Result<Left, Fail>
+    requires config { IsConfig config }
+    requires some { 1 ≤ streams.now.piece }
+{
+    let script = Vec::from_slice(alloc, script)?;
+    let mut source = MemorySource::new(script, streams.piece, vec![in alloc; streams.source]?);
+    let mut sink = MemorySink::new(alloc, streams.piece, vec![in alloc; streams.sink]?);
+    let (status, disk, kept) = offline_with(alloc, config, words, disk, &mut source, &mut sink);
+    let text = Vec::from_slice(alloc, sink.bytes())?;
+    Ok(Left {
+        status,
+        disk,
+        kept,
+        text,
+    })
+}
+
 /// Runs the command with a small file and a small buffer.
 fn run(
     alloc: Global,
@@ -67,16 +121,31 @@ fn run(
 ) -> Result<Left, Fail>
     requires { 1 ≤ streams.now.piece }
 {
-    let script = Vec::from_slice(alloc, script)?;
-    let mut source = MemorySource::new(script, streams.piece, vec![in alloc; streams.source]?);
-    let mut sink = MemorySink::new(alloc, streams.piece, vec![in alloc; streams.sink]?);
-    let (status, disk, _kept) = offline_with(alloc, SMALL, words, disk, &mut source, &mut sink);
-    let text = Vec::from_slice(alloc, sink.bytes())?;
-    Ok(Left { status, disk, text })
+    run_with(alloc, SMALL, words, script, disk, streams)
 }
 
 fn replay(alloc: Global, script: &[u8]) -> Result<Left, Fail> {
     run(alloc, WORDS, script, MemoryDisk::new(alloc)?, &WHOLE)
+}
+
+/// Replays the script with files of 1,024 bytes.
+fn replay_short(alloc: Global, script: &[u8]) -> Result<Left, Fail> {
+    run_with(alloc, SHORT, WORDS, script, MemoryDisk::new(alloc)?, &WHOLE)
+}
+
+/// These two texts, and between them the digits of so many zero bytes.
+fn with_zeros(alloc: Global, before: &[u8], count: u64, after: &[u8]) -> Result<Vec<u8>, Fail> {
+    let mut text = Vec::from_slice(alloc, before)?;
+    for _ in 0..count {
+        text.extend_from_slice(b"00")?;
+    }
+    text.extend_from_slice(after)?;
+    Ok(text)
+}
+
+/// How many appends the last receipt counts.
+fn last_count(kept: &Kept) -> Option<u64> {
+    kept.receipts.as_slice().last().map(|r| r.durable)
 }
 
 /// An empty disk whose call of this number fails.
@@ -99,13 +168,109 @@ fn a_tick_at_the_default_timeout(rt: HostRuntime) -> Result<(), Fail> {
         sink.bytes(),
         b"ok 0\nok 1\ndurable 0\ndurable 2\nlive 2\nadd 1 7 -\nupdate 1 8 6a\nin doubt 0\n".as_slice()
     );
-    assert_eq!(rt; kept.receipts.as_slice().last().map(|r| r.durable), Some(2));
+    assert_eq!(rt; last_count(&kept), Some(2));
     let file = disk.look(DATA_FILE)?.ok_or("no file")?;
     assert_eq!(rt; file.len(), 10_485_760);
     let update =
         b"\x0c\x00\x00\x00\x01\x00\x00\x00\x00\x00\x00\x00\x00\x01\x00\x00\x00\x01\x08\x6a\x00\x00\x00\x18";
     assert_eq!(rt; file.as_slice().get(39..63), Some(update.as_slice()));
     assert!(rt; file.iter().skip(63).all(|byte| *byte == 0x4a));
+    Ok(())
+}
+
+/// A flush with the default configuration: the second file is prepared, and there is no third one.
+#[test]
+fn two_files_at_first(rt: HostRuntime) -> Result<(), Fail> {
+    let alloc = rt.alloc();
+    let script = Vec::from_slice(alloc, b"add 1 7 6869\nflush\n")?;
+    let mut source = MemorySource::new(script, 4096, Vec::new(alloc));
+    let mut sink = MemorySink::new(alloc, 4096, Vec::new(alloc));
+    let disk = MemoryDisk::new(alloc)?;
+    let (status, mut disk, _kept) = offline(alloc, WORDS, disk, &mut source, &mut sink);
+    assert_eq!(rt; status, Status::Ok);
+    assert_eq!(rt;
+        sink.bytes(),
+        b"ok 0\ndurable 1\nlive 1\nadd 1 7 6869\nin doubt 0\n".as_slice()
+    );
+    assert_eq!(rt; disk.list()?.len(), 2);
+    assert!(rt; disk.look(DATA_FILE)?.is_some());
+    let second = disk.look(SECOND_FILE)?.ok_or("no second file")?;
+    assert_eq!(rt; second.len(), 10_485_760);
+    assert!(rt;
+        second.starts_with(b"\x00\x00\x00\x02\x00\x00\x00\x00\x00\x00\x00\x00\x00\x00\x00\x02")
+    );
+    assert!(rt; second.iter().skip(16).all(|byte| *byte == 0x4a));
+    Ok(())
+}
+
+/// An add of 1,008 bytes fills the first file behind its header, so the next one stands at place 16 of the
+/// second file. One of 1,009 bytes fits no file.
+#[test]
+fn an_add_that_fills_a_file(rt: HostRuntime) -> Result<(), Fail> {
+    let alloc = rt.alloc();
+    let script = with_zeros(alloc, b"add 1 7 ", 985, b"\nadd 2 7 -\n")?;
+    let text = with_zeros(
+        alloc,
+        b"ok 0\nok 1\nlive 2\nadd 1 7 ",
+        985,
+        b"\nadd 2 7 -\nin doubt 0\n",
+    )?;
+    let left = replay_short(alloc, &script)?;
+    assert_eq!(rt; left.status, Status::Ok);
+    assert_eq!(rt; left.text.as_slice(), text.as_slice());
+    let first = left.disk.look(DATA_FILE)?.ok_or("no file")?;
+    assert_eq!(rt; first.len(), 1024);
+    assert!(rt; first.ends_with(b"\x00\x00\x00\x03\xf0"));
+    let second = left.disk.look(SECOND_FILE)?.ok_or("no second file")?;
+    let add =
+        b"\x0b\x00\x00\x00\x02\x00\x00\x00\x00\x00\x00\x00\x00\x02\x00\x00\x00\x00\x07\x00\x00\x00\x17";
+    assert_eq!(rt; second.as_slice().get(16..39), Some(add.as_slice()));
+    assert!(rt; second.iter().skip(39).all(|byte| *byte == 0x4a));
+    let left = replay_short(alloc, &with_zeros(alloc, b"add 1 7 ", 986, b"\n")?)?;
+    assert_eq!(rt; left.status, Status::Ok);
+    assert_eq!(rt;
+        left.text.as_slice(),
+        b"refused TooLarge 1009 1008\nlive 0\nin doubt 0\n".as_slice()
+    );
+    Ok(())
+}
+
+/// The add of a transaction fills the first file, so its commit stands in the second one, where it counts
+/// no records.
+#[test]
+fn a_transaction_over_two_files(rt: HostRuntime) -> Result<(), Fail> {
+    let alloc = rt.alloc();
+    let script = with_zeros(alloc, b"begin a\naddtx a 1 7 ", 977, b"\ncommit a\n")?;
+    let text = with_zeros(
+        alloc,
+        b"tx 1\nok 0\nok 1\nlive 1\nadd 1 7 ",
+        977,
+        b"\nin doubt 0\n",
+    )?;
+    let left = replay_short(alloc, &script)?;
+    assert_eq!(rt; left.status, Status::Ok);
+    assert_eq!(rt; left.text.as_slice(), text.as_slice());
+    let second = left.disk.look(SECOND_FILE)?.ok_or("no second file")?;
+    let commit =
+        b"\x12\x00\x00\x00\x02\x00\x00\x00\x00\x00\x00\x00\x00\x01\x00\x00\x00\x00\x00\x00\x00\x16";
+    assert_eq!(rt; second.as_slice().get(16..38), Some(commit.as_slice()));
+    assert!(rt; second.iter().skip(38).all(|byte| *byte == 0x4a));
+    Ok(())
+}
+
+/// Each add but the first goes on to a further file, and makes the one before it durable, so the last one
+/// alone waits for the tick of its own timeout.
+#[test]
+fn ticks_behind_a_further_file(rt: HostRuntime) -> Result<(), Fail> {
+    let alloc = rt.alloc();
+    let script = b"add 1 7 6869\ntick 1\nadd 2 7 6869\ntick 3\ntick 4\n";
+    let disk = MemoryDisk::new(alloc)?;
+    let left = run_with(alloc, NARROW, WORDS, script, disk, &WHOLE)?;
+    assert_eq!(rt; left.status, Status::Ok);
+    assert_eq!(rt;
+        left.text.as_slice(),
+        b"ok 0\ndurable 0\nok 1\ndurable 1\ndurable 2\nlive 2\nadd 1 7 6869\nadd 2 7 6869\nin doubt 0\n".as_slice()
+    );
     Ok(())
 }
 
@@ -179,7 +344,7 @@ fn transactions_and_their_texts(rt: HostRuntime) -> Result<(), Fail> {
         ),
         (
             b"begin a\nadd 1 7 -\nadd 2 7 -\nadd 3 7 -\nadd 4 7 -\nadd 5 7 -\nadd 6 7 -\nadd 7 7 -\nadd 8 7 -\nadd 9 7 -\nadd 10 7 -\ncommit a\n",
-            b"tx 1\nok 0\nok 1\nok 2\nok 3\nok 4\nok 5\nok 6\nok 7\nok 8\nok 9\nrefused FileFull 22 10\nlive 10\nadd 1 7 -\nadd 2 7 -\nadd 3 7 -\nadd 4 7 -\nadd 5 7 -\nadd 6 7 -\nadd 7 7 -\nadd 8 7 -\nadd 9 7 -\nadd 10 7 -\nin doubt 0\n",
+            b"tx 1\nok 0\nok 1\nok 2\nok 3\nok 4\nok 5\nok 6\nok 7\nok 8\nok 9\nok 10\nlive 10\nadd 1 7 -\nadd 2 7 -\nadd 3 7 -\nadd 4 7 -\nadd 5 7 -\nadd 6 7 -\nadd 7 7 -\nadd 8 7 -\nadd 9 7 -\nadd 10 7 -\nin doubt 0\n",
         ),
     ];
     for (script, text) in rows {
@@ -293,12 +458,16 @@ fn a_sink_that_fails(rt: HostRuntime) -> Result<(), Fail> {
     Ok(())
 }
 
-/// The calls are those of opening, a write and a sync for the flush, the same at the closing, and the
-/// read at the end.
+/// The calls are the list and four for each of two files at the opening, a write and a sync for the
+/// flush, the same at the closing, and the read at the end.
 #[test]
 fn a_disk_that_fails(rt: HostRuntime) -> Result<(), Fail> {
     let alloc = rt.alloc();
-    let texts: [&[u8]; 10] = [
+    let texts: [&[u8]; 14] = [
+        b"",
+        b"",
+        b"",
+        b"",
         b"",
         b"",
         b"",
@@ -322,6 +491,38 @@ fn a_disk_that_fails(rt: HostRuntime) -> Result<(), Fail> {
         assert_eq!(rt; left.status, Status::DiskFault);
         assert_eq!(rt; left.status.code(), 6);
         assert_eq!(rt; left.text.as_slice(), text);
+    }
+    Ok(())
+}
+
+/// Each add behind the first goes on to a further file: the second to the one that is prepared, the third
+/// to one that is prepared for it, in four calls behind the flush. For each call from the first flush on,
+/// the text, and how many appends the last receipt counts.
+#[test]
+fn a_disk_that_fails_at_a_further_file(rt: HostRuntime) -> Result<(), Fail> {
+    let alloc = rt.alloc();
+    let rows: [(&[u8], u64); 13] = [
+        (b"ok 0\nrefused Disk WriteAt\n", 0),
+        (b"ok 0\nrefused Disk Sync\n", 0),
+        (b"ok 0\nok 1\nrefused Disk WriteAt\n", 1),
+        (b"ok 0\nok 1\nrefused Disk Sync\n", 1),
+        (b"ok 0\nok 1\nrefused Disk Create\n", 2),
+        (b"ok 0\nok 1\nrefused Disk WriteAt\n", 2),
+        (b"ok 0\nok 1\nrefused Disk Sync\n", 2),
+        (b"ok 0\nok 1\nrefused Disk Rename\n", 2),
+        (b"ok 0\nok 1\nok 2\n", 2),
+        (b"ok 0\nok 1\nok 2\n", 2),
+        (b"ok 0\nok 1\nok 2\n", 3),
+        (b"ok 0\nok 1\nok 2\n", 3),
+        (b"ok 0\nok 1\nok 2\n", 3),
+    ];
+    for (i, (text, count)) in rows.into_iter().enumerate() {
+        let disk = failing(alloc, i as u64 + 10)?;
+        let script = b"add 1 7 6869\nadd 2 7 6869\nadd 3 7 6869\n";
+        let left = run_with(alloc, NARROW, WORDS, script, disk, &WHOLE)?;
+        assert_eq!(rt; left.status, Status::DiskFault);
+        assert_eq!(rt; left.text.as_slice(), text);
+        assert_eq!(rt; last_count(&left.kept), Some(count));
     }
     Ok(())
 }

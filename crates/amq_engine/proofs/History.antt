@@ -1,8 +1,8 @@
--- The history of records one behind the other in the one file, and how it answers and goes on.
-use Rattle.std.proofs.Common.{◌≡◌, inl, ℕ, suc, ◌+◌, ◌<◌, ◌≤◌, Bool, true, false, List, [], ◌∷◌, ◌++◌, length, Option, None, Some, refl, sym, ap, subst, ◌∙◌, append_assoc, arith}
-use Rattle.std.specs.Prelude.{All, map as map_of}
+-- The history of records one behind the other in several files, and how it answers and goes on.
+use Rattle.std.proofs.Common.{◌≡◌, inl, inr, ℕ, suc, ◌+◌, ◌<◌, ◌≤◌, ◌-◌, ◌^◌, List, [], ◌∷◌, ◌++◌, length, Option, None, Some, refl, sym, ap, subst, ◌∙◌, append_assoc, arith}
+use Rattle.std.specs.Prelude.{All, IsTrue, map as map_of}
 use Rattle.std.proofs.lemmas.List.{length-map, map-append, append-nil}
-use Rattle.std.proofs.lemmas.List.Elements.{All-cons, All-head, All-tail, All-push, filter_map-append}
+use Rattle.std.proofs.lemmas.List.Elements.{All-head, All-tail, All-push, filter_map-append}
 use Rattle.amq_model.specs.declared.record.Record.{Record}
 use Rattle.amq_model.specs.declared.record.Placed.{Placed}
 use Rattle.amq_model.specs.declared.command.Command.{Command}
@@ -14,60 +14,84 @@ use Rattle.amq_model.specs.declared.history.Answer.{Answer}
 use Rattle.amq_model.specs.declared.history.Answer.TheVariants.{Done, Refused}
 use Rattle.amq_model.specs.declared.history.Step.{Step}
 use Rattle.amq_model.specs.declared.refusal.Refusal.{Refusal}
+use Rattle.amq_model.specs.declared.refusal.Refusal.TheVariants.{FileIdsSpent}
 use Rattle.amq_model.specs.RecordAt.{whole_len}
 use Rattle.amq_model.specs.Directory.{placed}
 use Rattle.amq_model.specs.Answers.{record_of, history_of, too_large, tx_refusal, held, id_refusal, spent, refusal, first_some, accepted, answer, highest}
 use Rattle.amq_tx.specs.Follows.{refusal_of, number_of_begin}
-use Rattle.amq_model.specs.Legal.{StandsNext, end_of, file_full, or_file_full, IsLegalStep, AreLegalFrom, AreLegal}
+use Rattle.amq_model.specs.Legal.{StandsNext, end_of, needs_file, IsDone, IsAnswered, IsLegalStep, AreLegalFrom, AreLegal}
 use Rattle.amq_scan.specs.Written.{Item, spelled, spots_from, end_from}
+use Rattle.amq_scan.specs.Segments.{Segment, records_of}
 use Rattle.amq_scan.proofs.Written.{spots_more}
 use Rattle.amq_scan.proofs.Scans.{whole_len-pos}
-use Rattle.amq_engine.specs.OneFile.{placed_in}
-use Rattle.amq_engine.specs.Engine.{full, refused, bare_reply}
+use Rattle.amq_pool.specs.declared.pool.PoolFile.{PoolFile}
+use Rattle.amq_engine.specs.Directory.{placed_in}
+use Rattle.amq_engine.specs.Engine.{refused, bare_reply, records}
 
 -- ---- places
 
--- the record that stands behind these
-abbrev pub behind : List Item → Item → Placed
-behind history x = record { file = 1; place = end_from 2 16 history; compact = x.compact; rec = x.rec }
+-- the record that stands behind these in the file
+abbrev pub behind : ℕ → List Item → Item → Placed
+behind id items x = record { file = id; place = end_from 2 16 items; compact = x.compact; rec = x.rec }
 
-pub placed-snoc : (history : List Item) (x : Item) → placed_in 1 (history ++ x ∷ []) ≡ placed_in 1 history ++ behind history x ∷ []
-placed-snoc history x = ap (map_of (placed 1)) (spots_more 2 16 history (x ∷ [])) ∙ map-append (placed 1) (spots_from 2 16 history) (spots_from 2 (end_from 2 16 history) (x ∷ []))
+pub placed-snoc : (id : ℕ) (items : List Item) (x : Item) → placed_in id (items ++ x ∷ []) ≡ placed_in id items ++ behind id items x ∷ []
+placed-snoc id items x = ap (map_of (placed id)) (spots_more 2 16 items (x ∷ [])) ∙ map-append (placed id) (spots_from 2 16 items) (spots_from 2 (end_from 2 16 items) (x ∷ []))
+
+pub records-snoc : (closed : List Segment) (used : PoolFile) (items : List Item) (x : Item) → records closed used (items ++ x ∷ []) ≡ records closed used items ++ behind used.id items x ∷ []
+records-snoc closed used items x = ap (λ (l : List Placed). records_of closed ++ l) (placed-snoc used.id items x) ∙ sym (append_assoc (records_of closed) (placed_in used.id items) (behind used.id items x ∷ []))
 
 length-spots : (place : ℕ) (items : List Item) → length (spots_from 2 place items) ≡ length items
 length-spots place [] = refl
 length-spots place (x ∷ xs) = ap suc (length-spots (place + whole_len 2 x.rec) xs)
 
-pub length-placed : (history : List Item) → length (placed_in 1 history) ≡ length history
-length-placed history = length-map (spots_from 2 16 history) (placed 1) ∙ length-spots 16 history
+pub length-placed : (id : ℕ) (items : List Item) → length (placed_in id items) ≡ length items
+length-placed id items = length-map (spots_from 2 16 items) (placed id) ∙ length-spots 16 items
 
-end_from_place : (place : ℕ) (items : List Item) (x : Item) → end_of (map_of (placed 1) (spots_from 2 place (x ∷ items))) ≡ end_from 2 place (x ∷ items)
-end_from_place place [] x = refl
-end_from_place place (y ∷ ys) x = end_from_place (place + whole_len 2 x.rec) ys y
+-- the last of several is that of those behind
+end_behind : (xs : List Placed) (y : Placed) (ys : List Placed) → end_of (xs ++ y ∷ ys) ≡ end_of (y ∷ ys)
+end_behind [] y ys = refl
+end_behind (x ∷ []) y ys = refl
+end_behind (x ∷ w ∷ xs) y ys = end_behind (w ∷ xs) y ys
 
-pub end_placed : (history : List Item) → end_of (placed_in 1 history) ≡ end_from 2 16 history
-end_placed [] = refl
-end_placed (x ∷ xs) = end_from_place 16 xs x
+end_from_place : (id place : ℕ) (items : List Item) (x : Item) → end_of (map_of (placed id) (spots_from 2 place (x ∷ items))) ≡ end_from 2 place (x ∷ items)
+end_from_place id place [] x = refl
+end_from_place id place (y ∷ ys) x = end_from_place id (place + whole_len 2 x.rec) ys y
+
+-- where the last append ends, if it stands in the file in use
+pub end_records : (closed : List Segment) (used : PoolFile) (items : List Item) → (items ≡ [] → ⊥) → end_of (records closed used items) ≡ end_from 2 16 items
+end_records closed used [] some = absurd (some refl)
+end_records closed used (x ∷ xs) some = end_behind (records_of closed) _ _ ∙ end_from_place used.id 16 xs x
 
 -- each record takes room
 few : (place : ℕ) (items : List Item) → place + length items ≤ end_from 2 place items
 few place [] = omega arith
 few place (x ∷ xs) = omega (arith, few (place + whole_len 2 x.rec) xs, whole_len-pos 2 x.rec)
 
-pub few_records : (history : List Item) → 16 + length history ≤ end_from 2 16 history
-few_records history = few 16 history
+pub few_records : (items : List Item) → 16 + length items ≤ end_from 2 16 items
+few_records items = few 16 items
 
-next_from : (place : ℕ) (items : List Item) (x y : Item) → StandsNext [] (map_of (placed 1) (spots_from 2 place (x ∷ items))) (record { file = 1; place = end_from 2 place (x ∷ items); compact = y.compact; rec = y.rec })
-next_from place [] x y = inl (refl, refl)
-next_from place (z ∷ zs) x y = next_from (place + whole_len 2 x.rec) zs z y
+next_behind : (xs : List Placed) (y : Placed) (ys : List Placed) (p : Placed) → StandsNext [] (y ∷ ys) p → StandsNext [] (xs ++ y ∷ ys) p
+next_behind [] y ys p next = next
+next_behind (x ∷ []) y ys p next = next
+next_behind (x ∷ w ∷ xs) y ys p next = next_behind (w ∷ xs) y ys p next
 
-pub stands_next : (history : List Item) (y : Item) → StandsNext [] (placed_in 1 history) (behind history y)
-stands_next [] y = (refl, λ k d lt. absurd (omega (arith, lt)))
-stands_next (x ∷ xs) y = next_from 16 xs x y
+next_from : (id place : ℕ) (items : List Item) (x y : Item) → StandsNext [] (map_of (placed id) (spots_from 2 place (x ∷ items))) (record { file = id; place = end_from 2 place (x ∷ items); compact = y.compact; rec = y.rec })
+next_from id place [] x y = inl (refl, refl)
+next_from id place (z ∷ zs) x y = next_from id (place + whole_len 2 x.rec) zs z y
 
-pub spelled_some : (items : List Item) → spelled 2 1 items ≡ [] → items ≡ []
-spelled_some [] is = refl
-spelled_some (x ∷ xs) is = absurd cc
+-- the first record of a file above those before
+next_above : (id : ℕ) (xs : List Placed) (y : Item) → All (λ p. p.file < id) xs → StandsNext [] xs (record { file = id; place = 16; compact = y.compact; rec = y.rec })
+next_above id [] y below = (refl, λ k d lt. absurd (omega (arith, lt)))
+next_above id (x ∷ []) y below = inr (All-head (λ p. p.file < id) x [] below, refl)
+next_above id (x ∷ w ∷ xs) y below = next_above id (w ∷ xs) y (All-tail (λ p. p.file < id) x (w ∷ xs) below)
+
+pub stands_next : (closed : List Segment) (used : PoolFile) (items : List Item) (y : Item) → All (λ p. p.file < used.id) (records_of closed) → StandsNext [] (records closed used items) (behind used.id items y)
+stands_next closed used [] y below = subst (λ (l : List Placed). StandsNext [] l (behind used.id [] y)) (sym (append-nil (records_of closed))) (next_above used.id (records_of closed) y below)
+stands_next closed used (x ∷ xs) y below = next_behind (records_of closed) _ _ (behind used.id (x ∷ xs) y) (next_from used.id 16 xs x y)
+
+pub spelled_some : (id : ℕ) (items : List Item) → spelled 2 id items ≡ [] → items ≡ []
+spelled_some id [] is = refl
+spelled_some id (x ∷ xs) is = absurd cc
 
 -- ---- answers
 
@@ -94,9 +118,6 @@ accepted_is steps (c.Commit tx) = refl
 accepted_is steps (c.Rollback tx) = refl
 accepted_is steps c.Flush = refl
 
-file_full_is : (config : Config) (history : List Placed) (end : ℕ) (command : Command) → end ≡ end_of history → file_full history config command ≡ full config end command
-file_full_is config history end command is = ap (λ (n : ℕ). full config n command) (sym is)
-
 abbrev answer_by : Option Refusal → Answer → Answer
 answer_by (Some r) otherwise = Refused r
 answer_by None otherwise = otherwise
@@ -104,13 +125,6 @@ answer_by None otherwise = otherwise
 answer_opened : (steps : List Step) (config : Config) (command : Command) (o : Option Refusal) → refusal [] steps config command ≡ o → answer [] steps config command ≡ answer_by o (accepted [] steps command)
 answer_opened steps config command None is = rw (is, answer) refl
 answer_opened steps config command (Some r) is = rw (is, answer) refl
-
-full_by : (history : List Placed) (config : Config) (command : Command) (reply : Reply) (a b o : Option Refusal) → file_full history config command ≡ o
-    → or_file_full history config command (answer_by (first_some (a ∷ b ∷ [])) (Done reply)) ≡ answered_by (first_some (a ∷ b ∷ o ∷ [])) reply
-full_by history config command reply (Some r) b o is = refl
-full_by history config command reply None (Some r) o is = refl
-full_by history config command reply None None None is = rw (is, or_file_full) refl
-full_by history config command reply None None (Some r) is = rw (is, or_file_full) refl
 
 one_of : (o : Option Refusal) → o ≡ first_some (o ∷ [])
 one_of None = refl
@@ -120,16 +134,42 @@ regroup : (a : Option Refusal) (os : List (Option Refusal)) → first_some (a �
 regroup (Some r) os = refl
 regroup None os = one_of (first_some os)
 
--- what the journal of one thread answers a command, where the file may be full
-pub answer_is : (steps : List Step) (config : Config) (command : Command) (by_table : Option Refusal) (end : ℕ) → by_table ≡ refusal_of [] steps command → end ≡ end_of (history_of steps)
-    → or_file_full (history_of steps) config command (answer [] steps config command) ≡ answered_by (refused config by_table end command) (reply_behind steps command)
-answer_is steps config command by_table end known at =
+-- what the journal of one thread answers a command
+answer_is : (steps : List Step) (config : Config) (command : Command) (by_table : Option Refusal) → by_table ≡ refusal_of [] steps command → answer [] steps config command ≡ answered_by (first_some (too_large config command ∷ by_table ∷ [])) (reply_behind steps command)
+answer_is steps config command by_table known =
     let refuses : List (Option Refusal) = tx_refusal [] steps command ∷ held [] steps command ∷ id_refusal [] steps command ∷ spent [] steps command ∷ [] in
-    ap (or_file_full (history_of steps) config command)
-    (answer_opened steps config command (first_some (too_large config command ∷ by_table ∷ []))
+    answer_opened steps config command (first_some (too_large config command ∷ by_table ∷ []))
     (regroup (too_large config command) refuses ∙ ap (λ (o : Option Refusal). first_some (too_large config command ∷ o ∷ [])) (sym known))
-    ∙ ap (answer_by (first_some (too_large config command ∷ by_table ∷ []))) (accepted_is steps command))
-    ∙ full_by (history_of steps) config command (reply_behind steps command) (too_large config command) by_table (full config end command) (file_full_is config (history_of steps) end command at)
+    ∙ ap (answer_by (first_some (too_large config command ∷ by_table ∷ []))) (accepted_is steps command)
+    ∙ said (first_some (too_large config command ∷ by_table ∷ []))
+  where
+    said : (o : Option Refusal) → answer_by o (Done (reply_behind steps command)) ≡ answered_by o (reply_behind steps command)
+    said None = refl
+    said (Some r) = refl
+
+-- a command that nothing refuses is answered by the journal of one thread
+pub answered_none : (steps : List Step) (config : Config) (command : Command) (by_table by_numbers : Option Refusal) → by_table ≡ refusal_of [] steps command → refused config by_table by_numbers command ≡ None → IsAnswered [] steps config command (Done (reply_behind steps command))
+answered_none steps config command by_table by_numbers known none =
+    inl (sym (answer_is steps config command by_table known ∙ ap (λ (o : Option Refusal). answered_by o (reply_behind steps command)) (two (too_large config command) by_table none)))
+  where
+    two : (a b : Option Refusal) → first_some (a ∷ b ∷ by_numbers ∷ []) ≡ None → first_some (a ∷ b ∷ []) ≡ None
+    two (Some r) b is = absurd cc
+    two None (Some r) is = absurd cc
+    two None None is = refl
+
+-- a command that something refuses is answered so, where the numbers of files are spent as they may be
+pub answered_some : (steps : List Step) (config : Config) (command : Command) (by_table by_numbers : Option Refusal) (r : Refusal) → by_table ≡ refusal_of [] steps command → refused config by_table by_numbers command ≡ Some r
+    → (too_large config command ≡ None → by_numbers ≡ Some r → (r ≡ FileIdsSpent (2 ^ 31 - 1)) × IsTrue (needs_file (history_of steps) config command)) → IsAnswered [] steps config command (Refused r)
+answered_some steps config command by_table by_numbers r known is spent_so = by (too_large config command) by_table refl refl is where
+  said : (a b : Option Refusal) → too_large config command ≡ a → by_table ≡ b → answer [] steps config command ≡ answered_by (first_some (a ∷ b ∷ [])) (reply_behind steps command)
+  said a b one other = answer_is steps config command by_table known ∙ ap (λ (o : Option Refusal). answered_by (first_some (o ∷ by_table ∷ [])) (reply_behind steps command)) one ∙ ap (λ (o : Option Refusal). answered_by (first_some (a ∷ o ∷ [])) (reply_behind steps command)) other
+
+  by : (a b : Option Refusal) → too_large config command ≡ a → by_table ≡ b → first_some (a ∷ b ∷ by_numbers ∷ []) ≡ Some r → IsAnswered [] steps config command (Refused r)
+  by (Some q) b one other first = inl (sym (said (Some q) b one other ∙ ap (λ (o : Option Refusal). answered_by o (reply_behind steps command)) first))
+  by None (Some q) one other first = inl (sym (said None (Some q) one other ∙ ap (λ (o : Option Refusal). answered_by o (reply_behind steps command)) first))
+  by None None one other first =
+      let s = spent_so one (one_of by_numbers ∙ first) in
+      inr (ap (λ (q : Refusal). Refused q) s.0, s.1, subst IsDone (sym (said None None one other)) tt)
 
 -- ---- one more step
 

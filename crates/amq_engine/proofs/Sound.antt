@@ -1,174 +1,154 @@
--- What is always so of an engine, from call to call.
-use Rattle.std.proofs.Common.{◌≡◌, inl, ℕ, ◌+◌, ◌≤◌, Bool, refl, List, [], ◌++◌, length, take, drop, Option, sym, ap, subst, ◌∙◌, arith}
+-- What is always so of an engine, through the calls that put bytes.
+use Rattle.std.proofs.Common.{◌≡◌, inl, inr, ℕ, ◌<◌, ◌≤◌, refl, List, [], length, drop, Option, sym, ap, subst, ◌∙◌, arith}
 use Rattle.std.specs.Prelude.{IfSome, option_map}
-use Rattle.std.proofs.lemmas.List.{drop_all, take_all, length-append, length-drop}
-use Rattle.amq_model.specs.RecordAt.{long, word}
+use Rattle.std.proofs.lemmas.Bool.{cases_lt}
+use Rattle.std.proofs.lemmas.List.{drop_all, take_all, length-drop}
 use Rattle.amq_model.specs.declared.config.Config.{Config}
+use Rattle.amq_model.specs.declared.record.Placed.{Placed}
+use Rattle.amq_model.specs.Configs.{IsConfig}
 use Rattle.amq_model.specs.Calls.{Past}
 use Rattle.amq_model.specs.Files.{Files}
 use Rattle.amq_model.specs.Leaves.{Leaves, AllReads, Told, IsThere, IsWithin, IsAt}
 use Rattle.amq_model.proofs.Keeping.{reads_on, holds_now, kept_weaker}
-use Rattle.amq_record.proofs.Lengths.{length_long, length_word}
-use Rattle.amq_scan.specs.Written.{Item, spelled, end_from}
-use Rattle.amq_engine.specs.Lists.{Lists, with_receipt}
-use Rattle.amq_engine.specs.OneFile.{header_of, Holds}
-use Rattle.amq_engine.specs.Puts.{Puts, Put}
-use Rattle.amq_model.specs.declared.history.Step.{Step}
+use Rattle.amq_scan.specs.Written.{spelled, end_from}
 use Rattle.amq_tx.specs.State.{TxState}
+use Rattle.amq_pool.specs.Pools.{PoolOf}
+use Rattle.amq_engine.specs.Lists.{Lists, with_receipt}
+use Rattle.amq_engine.specs.Directory.{StandsNow}
+use Rattle.amq_engine.specs.Puts.{Puts, Put}
 use Rattle.amq_engine.specs.declared.tail.Tail.{Tail}
-use Rattle.amq_engine.specs.Receipts.{AreInOrder, IsLastCount}
-use Rattle.amq_engine.specs.Engine.{data_name, MayHold, IsTold, IsSound, IsValid, emptied, end_of_tail}
+use Rattle.amq_engine.specs.Engine.{Holds, IsTold, Parts, IsSound, records, emptied, end_of_tail}
 use Rattle.amq_engine.proofs.History.{spelled_some}
 use Rattle.amq_engine.proofs.Texts.{end_whole}
-use Rattle.amq_engine.proofs.Steps.{holds_puts, holds_put, holds_fewer, told_there, told_within}
+use Rattle.amq_engine.proofs.Standing.{puts_stand, put_stands, stand_there, stand_within}
+use Rattle.amq_engine.proofs.Holding.{stands_now_holds}
 use Rattle.amq_engine.proofs.Receipts.{if_some, if_mapped, kept_through, kept_push}
 
-pub header_long : (user_version id : ℕ) → length (header_of user_version id) ≡ 16
-header_long user_version id = omega (arith, length-append (word 2) (word user_version ++ long id), length-append (word user_version) (long id), length_word 2, length_word user_version, length_long id)
+-- where bytes wait, not all is durable
+pub some_wait : (config : Config) (table : TxState) (pool : PoolOf) (t : Tail) (p : Parts config table pool t) → (t.buffer.bytes ≡ [] → ⊥) → p.sure < length p.items
+some_wait config table pool t p waits =
+    elim (cases_lt p.sure (length p.items)) [
+      | inl lt ↦ lt
+      | inr ge ↦ absurd (waits (p.buffered ∙ ap (spelled 2 t.file.id) (drop_all p.sure p.items ge)))
+    ]
 
-module _ (config : Config) where
-  abbrev pub Holding : ℕ → List Item → Files → Type 0
-  Holding d history s = Holds data_name (header_of config.user_version 1) 1 config.file_size d history s
+-- an empty buffer: all is durable
+pub none_wait : (config : Config) (table : TxState) (pool : PoolOf) (t : Tail) (p : Parts config table pool t) → t.buffer.bytes ≡ [] → p.sure ≡ length p.items
+none_wait config table pool t p none =
+    let rest : drop p.sure p.items ≡ [] = spelled_some t.file.id (drop p.sure p.items) (sym p.buffered ∙ none) in
+    omega (arith, p.some, ap length rest, length-drop p.sure p.items)
 
-  module _ (history : List Item) (steps : List Step) (durable end : ℕ) (buffer : List ℕ) (at : end ≡ end_from 2 16 (take durable history)) (is : buffer ≡ spelled 2 1 (drop durable history)) (le : durable ≤ length history) (fits : end + length buffer ≤ config.file_size) where
-    puts_hold : (o s : Files) → Holding durable history o → Puts data_name end buffer o s → Holding durable history s
-    puts_hold o s was p = holds_puts data_name (header_of config.user_version 1) 1 history durable end buffer (header_long config.user_version 1) at is le config.file_size fits o s was p
-
-    put_holds : (o s : Files) → Holding durable history o → Put data_name end buffer o s → Holding (length history) history s
-    put_holds o s was p = holds_put data_name (header_of config.user_version 1) 1 history durable end buffer (header_long config.user_version 1) at is le config.file_size fits o s was p
-
-    inside : (d : ℕ) → d ≤ durable → (o s : Files) → Holding durable history o → Puts data_name end buffer o s → MayHold config d history s
-    inside d some o s was p = inl (holds_fewer data_name (header_of config.user_version 1) 1 config.file_size d durable history some s (puts_hold o s was p))
-
-    -- while bytes are put, and where that failed
-    pub still_told : (E : Files → Files → Type 0) (a b : Option Past) (l : Lists) → AllReads a (Holding durable history) → Leaves (Puts data_name end buffer) E a b → IsTold a config durable history steps l → IsTold b config durable history steps l
-    still_told E a b l now leaves told = record {
-      base = told.base;
-      same = told.same;
-      kept = kept_through (Puts data_name end buffer) E (Holding durable history) config durable history l.receipts a b told.kept now inside leaves;
-    }
-
-    pub reads_still : (a b : Option Past) → AllReads a (Holding durable history) → Leaves (Puts data_name end buffer) (Puts data_name end buffer) a b → AllReads b (Holding durable history)
-    reads_still a b now leaves = reads_on (Puts data_name end buffer) (Puts data_name end buffer) (Holding durable history) (Holding durable history) a b now puts_hold leaves
-
-    -- when they are put
-    pub reads_put : (a b : Option Past) → AllReads a (Holding durable history) → Leaves (Puts data_name end buffer) (Put data_name end buffer) a b → AllReads b (Holding (length history) history)
-    reads_put a b now leaves = reads_on (Puts data_name end buffer) (Put data_name end buffer) (Holding durable history) (Holding (length history) history) a b now put_holds leaves
-
-    pub receipt_told : (a b : Option Past) (l : Lists) (count m : ℕ) → count ≡ length history → AllReads a (Holding durable history) → Leaves (Puts data_name end buffer) (Put data_name end buffer) a b → IfSome b (IsAt m)
-        → IsTold a config durable history steps l → IsTold b config count history steps (with_receipt count m l)
-    receipt_told a b l count m all now leaves moment told =
-        let still = still_told (Put data_name end buffer) a b l now leaves told in
-        let here : AllReads b (Holding count history) = subst (λ (n : ℕ). AllReads b (Holding n history)) (sym all) (reads_put a b now leaves) in
-        record {
-          base = still.base;
-          same = still.same;
-          kept = kept_push config durable count history l.receipts count m b (omega (arith, all, le)) (omega arith) still.kept
-              (λ early. kept_weaker (Holding count history) (MayHold config count history) m b (λ s holds. inl holds) (holds_now (Holding count history) m b moment early here));
-        }
-
--- after a put that failed
-pub sound_failed : (a b : Option Past) (lists : Option Lists) (room : ℕ) (config : Config) (table : TxState) (t : Tail) → IsSound a lists room config table t
-    → Leaves (Puts data_name t.end t.buffer.bytes) (Puts data_name t.end t.buffer.bytes) a b → IsSound b lists room config table t
-sound_failed a b lists room config table t s leaves =
-    let le : t.durable ≤ length s.history = omega (arith, s.most, s.count) in
-    record {
-      history = s.history;
-      steps = s.steps;
-      items = s.items;
-      placed = s.placed;
-      legal = s.legal;
-      follows = s.follows;
-      size_least = s.size_least;
-      size_most = s.size_most;
-      capacity = s.capacity;
-      timeout = s.timeout;
-      first = s.first;
-      count = s.count;
-      most = s.most;
-      reads_now = reads_still config s.history s.steps t.durable t.end t.buffer.bytes s.place s.buffered le s.fits a b s.reads_now leaves;
-      buffered = s.buffered;
-      place = s.place;
-      fits = s.fits;
-      room = s.room;
-      told = if_some (IsTold a config t.durable s.history s.steps) (IsTold b config t.durable s.history s.steps) lists
-          (λ l told. still_told config s.history s.steps t.durable t.end t.buffer.bytes s.place s.buffered le s.fits (Puts data_name t.end t.buffer.bytes) a b l s.reads_now leaves told) s.told;
-    }
+pub all_durable : (config : Config) (table : TxState) (pool : PoolOf) (t : Tail) (p : Parts config table pool t) → t.buffer.bytes ≡ [] → t.durable ≡ t.appended
+all_durable config table pool t p none = omega (arith, p.durable, p.count, none_wait config table pool t p none)
 
 -- the tail behind a put that answered Ok
 abbrev pub put_out : Tail → Tail
-put_out t = record { buffer = emptied t.buffer; end = end_of_tail t; appended = t.appended; durable = t.appended }
+put_out t = record { file = t.file; buffer = emptied t.buffer; end = end_of_tail t; appended = t.appended; durable = t.appended }
 
--- after a put, and its receipt
-pub sound_put : (a b : Option Past) (lists lists' : Option Lists) (room room' : ℕ) (config : Config) (table : TxState) (t : Tail) (m : ℕ) → IsSound a lists room config table t
-    → Leaves (Puts data_name t.end t.buffer.bytes) (Put data_name t.end t.buffer.bytes) a b → IfSome b (IsAt m) → lists' ≡ option_map (with_receipt t.appended m) lists → IsSound b lists' room' config table (put_out t)
-sound_put a b lists lists' room room' config table t m s leaves moment noted =
-    let le : t.durable ≤ length s.history = omega (arith, s.most, s.count) in
-    let told : IfSome (option_map (with_receipt t.appended m) lists) (IsTold b config t.appended s.history s.steps) =
-    if_mapped (IsTold a config t.durable s.history s.steps) (IsTold b config t.appended s.history s.steps) (with_receipt t.appended m) lists
-    (λ l told. receipt_told config s.history s.steps t.durable t.end t.buffer.bytes s.place s.buffered le s.fits a b l t.appended m s.count s.reads_now leaves moment told) s.told in
-    record {
-      history = s.history;
-      steps = s.steps;
-      items = s.items;
-      placed = s.placed;
-      legal = s.legal;
-      follows = s.follows;
-      size_least = s.size_least;
-      size_most = s.size_most;
-      capacity = s.capacity;
-      timeout = s.timeout;
-      first = (λ e. refl, λ e. refl);
-      count = s.count;
-      most = omega arith;
-      reads_now = subst (λ (n : ℕ). AllReads b (Holding config n s.history)) (sym s.count) (reads_put config s.history s.steps t.durable t.end t.buffer.bytes s.place s.buffered le s.fits a b s.reads_now leaves);
-      buffered = sym (ap (spelled 2 1) (drop_all t.appended s.history (omega (arith, s.count))));
-      place = end_whole 1 t.durable t.end s.history t.buffer.bytes s.place s.buffered ∙ ap (end_from 2 16) (sym (take_all t.appended s.history (omega (arith, s.count))));
-      fits = omega (arith, s.fits);
-      room = λ some. absurd (some refl);
-      told = subst (λ (l : Option Lists). IfSome l (IsTold b config t.appended s.history s.steps)) (sym noted) told;
-    }
+pub parts_put : (config : Config) (table : TxState) (pool : PoolOf) (t : Tail) → Parts config table pool t → Parts config table pool (put_out t)
+parts_put config table pool t p = record {
+  closed = p.closed;
+  items = p.items;
+  sure = length p.items;
+  steps = p.steps;
+  new = p.new;
+  placed = p.placed;
+  legal = p.legal;
+  follows = p.follows;
+  same_config = p.same_config;
+  pool_is = p.pool_is;
+  listed = p.listed;
+  numbered = p.numbered;
+  numbers = p.numbers;
+  few = p.few;
+  capacity = p.capacity;
+  timeout = p.timeout;
+  first = (λ e. refl, λ e. refl);
+  some = omega arith;
+  durable = p.count;
+  count = p.count;
+  buffered = sym (ap (spelled 2 t.file.id) (drop_all (length p.items) p.items (omega arith)));
+  place = end_whole t.file.id p.sure t.end p.items t.buffer.bytes p.place p.buffered ∙ ap (end_from 2 16) (sym (take_all (length p.items) p.items (omega arith)));
+  fits = omega (arith, p.fits);
+}
 
--- an empty buffer: all is durable
-pub all_durable : (past : Option Past) (lists : Option Lists) (room : ℕ) (config : Config) (table : TxState) (t : Tail) → IsSound past lists room config table t → t.buffer.bytes ≡ [] → t.durable ≡ t.appended
-all_durable past lists room config table t s none =
-    let rest : drop t.durable s.history ≡ [] = spelled_some (drop t.durable s.history) (sym s.buffered ∙ none) in
-    omega (arith, s.most, s.count, ap length rest, length-drop t.durable s.history)
+module _ (a b : Option Past) (lists : Option Lists) (room : ℕ) (config : Config) (table : TxState) (pool : PoolOf) (t : Tail) (ranges : IsConfig config) (s : IsSound a lists room config table pool t) (waits : t.buffer.bytes ≡ [] → ⊥) where
+  abbrev p : Parts config table pool t
+  p = s.parts
+
+  abbrev Now : Files → Type 0
+  Now = StandsNow config s.parts.closed t.file s.parts.sure s.parts.items pool.highest pool.prepared
+
+  abbrev Then : Files → Type 0
+  Then = StandsNow config s.parts.closed t.file (length s.parts.items) s.parts.items pool.highest pool.prepared
+
+  abbrev I : Files → Files → Type 0
+  I = Puts t.file.name t.end t.buffer.bytes
+
+  abbrev history : List Placed
+  history = records s.parts.closed t.file s.parts.items
+
+  inside : (o f : Files) → Now o → I o f → Now f
+  inside o f was puts = puts_stand config s.parts.closed t.file s.parts.sure s.parts.items pool.highest pool.prepared t.end t.buffer.bytes ranges s.parts.place s.parts.buffered (some_wait config table pool t s.parts waits) s.parts.fits s.parts.listed o f was puts
+
+  at_end : (o f : Files) → Now o → Put t.file.name t.end t.buffer.bytes o f → Then f
+  at_end o f was puts = put_stands config s.parts.closed t.file s.parts.sure s.parts.items pool.highest pool.prepared t.end t.buffer.bytes ranges s.parts.place s.parts.buffered (some_wait config table pool t s.parts waits) s.parts.fits s.parts.listed o f was puts
+
+  held : (d : ℕ) → d ≤ t.durable → (o f : Files) → Now o → I o f → Holds config.user_version [] d history f
+  held d le o f was puts = stands_now_holds config s.parts.closed t.file s.parts.sure s.parts.items pool.highest pool.prepared f d ranges s.parts.new s.parts.some s.parts.numbers s.parts.listed (omega (arith, le, s.parts.durable)) (inside o f was puts)
+
+  still_told : (E : Files → Files → Type 0) → Leaves I E a b → (l : Lists) → IsTold a config.user_version t.durable history s.parts.steps l → IsTold b config.user_version t.durable history s.parts.steps l
+  still_told E leaves l told = record {
+    base = told.base;
+    same = told.same;
+    kept = kept_through I E Now config.user_version t.durable history l.receipts a b told.kept s.reads_now held leaves;
+  }
+
+  -- after a put that failed
+  pub sound_failed : Leaves (Puts t.file.name t.end t.buffer.bytes) (Puts t.file.name t.end t.buffer.bytes) a b → IsSound b lists room config table pool t
+  sound_failed leaves = record {
+    parts = s.parts;
+    reads_now = reads_on I I Now Now a b s.reads_now inside leaves;
+    room = s.room;
+    told = if_some (IsTold a config.user_version t.durable history s.parts.steps) (IsTold b config.user_version t.durable history s.parts.steps) lists (still_told I leaves) s.told;
+  }
+
+  -- after a put, and its receipt
+  pub sound_put : (lists' : Option Lists) (room' m : ℕ) → Leaves (Puts t.file.name t.end t.buffer.bytes) (Put t.file.name t.end t.buffer.bytes) a b → IfSome b (IsAt m) → lists' ≡ option_map (with_receipt t.appended m) lists → IsSound b lists' room' config table pool (put_out t)
+  unfolding parts_put
+  sound_put lists' room' m leaves moment noted =
+      let now : AllReads b Then = reads_on I (Put t.file.name t.end t.buffer.bytes) Now Then a b s.reads_now at_end leaves in
+      let all : (f : Files) → Then f → Holds config.user_version [] t.appended history f =
+      λ f stands. stands_now_holds config s.parts.closed t.file (length s.parts.items) s.parts.items pool.highest pool.prepared f t.appended ranges s.parts.new (omega arith) s.parts.numbers s.parts.listed (omega (arith, s.parts.count)) stands in
+      let told : IfSome (option_map (with_receipt t.appended m) lists) (IsTold b config.user_version t.appended history s.parts.steps) =
+      if_mapped (IsTold a config.user_version t.durable history s.parts.steps) (IsTold b config.user_version t.appended history s.parts.steps) (with_receipt t.appended m) lists
+      (λ l told.
+      let still = still_told (Put t.file.name t.end t.buffer.bytes) leaves l told in
+      record {
+        base = still.base;
+        same = still.same;
+        kept = kept_push config.user_version t.durable t.appended history l.receipts t.appended m b (omega (arith, s.parts.durable, s.parts.count, s.parts.some)) (omega arith) still.kept
+            (λ early. kept_weaker Then (Holds config.user_version [] t.appended history) m b all (holds_now Then m b moment early now));
+      }) s.told in
+      record {
+        parts = parts_put config table pool t s.parts;
+        reads_now = now;
+        room = λ some. absurd (some refl);
+        told = subst (λ (l : Option Lists). IfSome l (IsTold b config.user_version t.appended history s.parts.steps)) (sym noted) told;
+      }
 
 -- with the same lists, and room at least as much
-pub valid_room : (past : Option Past) (moment : ℕ) (lists lists' : Option Lists) (room room' : ℕ) (config : Config) (table : TxState) (t : Tail) → lists' ≡ lists → room ≤ room' → IsValid past moment lists room config table t → IsValid past moment lists' room' config table t
-valid_room past moment lists lists' room room' config table t same more v =
-    let s = v.sound in
-    record {
-      sound = record {
-        history = s.history;
-        steps = s.steps;
-        items = s.items;
-        placed = s.placed;
-        legal = s.legal;
-        follows = s.follows;
-        size_least = s.size_least;
-        size_most = s.size_most;
-        capacity = s.capacity;
-        timeout = s.timeout;
-        first = s.first;
-        count = s.count;
-        most = s.most;
-        reads_now = s.reads_now;
-        buffered = s.buffered;
-        place = s.place;
-        fits = s.fits;
-        room = λ some. omega (arith, s.room some, more);
-        told = subst (λ (l : Option Lists). IfSome l (IsTold past config t.durable s.history s.steps)) (sym same) s.told;
-      };
-      ranges = v.ranges;
-      order = subst (λ (l : Option Lists). IfSome l (λ l. AreInOrder moment l.receipts)) (sym same) v.order;
-      last = subst (λ (l : Option Lists). IfSome l (λ l. IsLastCount t.durable l.receipts)) (sym same) v.last;
-    }
+pub sound_room : (past : Option Past) (lists lists' : Option Lists) (room room' : ℕ) (config : Config) (table : TxState) (pool : PoolOf) (t : Tail) → lists' ≡ lists → room ≤ room' → IsSound past lists room config table pool t → IsSound past lists' room' config table pool t
+sound_room past lists lists' room room' config table pool t same more s = record {
+  parts = s.parts;
+  reads_now = s.reads_now;
+  room = λ some. omega (arith, s.room some, more);
+  told = subst (λ (l : Option Lists). IfSome l (IsTold past config.user_version t.durable (records s.parts.closed t.file s.parts.items) s.parts.steps)) (sym same) s.told;
+}
 
 -- what the calls of a flush require
-pub sound_there : (past : Option Past) (lists : Option Lists) (room : ℕ) (config : Config) (table : TxState) (t : Tail) → IsSound past lists room config table t → Told past (IsThere data_name)
-sound_there past lists room config table t s = told_there data_name (header_of config.user_version 1) 1 t.durable config.file_size s.history past s.reads_now
+pub sound_there : (past : Option Past) (lists : Option Lists) (room : ℕ) (config : Config) (table : TxState) (pool : PoolOf) (t : Tail) → IsSound past lists room config table pool t → Told past (IsThere t.file.name)
+sound_there past lists room config table pool t s = stand_there config s.parts.closed t.file s.parts.sure s.parts.items pool.highest pool.prepared past s.reads_now
 
-pub sound_within : (past : Option Past) (lists : Option Lists) (room : ℕ) (config : Config) (table : TxState) (t : Tail) → IsSound past lists room config table t → Told past (IsWithin data_name (end_of_tail t))
-sound_within past lists room config table t s = told_within data_name (header_of config.user_version 1) 1 t.durable config.file_size (end_of_tail t) s.history s.fits past s.reads_now
+pub sound_within : (past : Option Past) (lists : Option Lists) (room : ℕ) (config : Config) (table : TxState) (pool : PoolOf) (t : Tail) → IsSound past lists room config table pool t → Told past (IsWithin t.file.name (end_of_tail t))
+sound_within past lists room config table pool t s = stand_within config s.parts.closed t.file s.parts.sure s.parts.items pool.highest pool.prepared (end_of_tail t) past s.parts.fits s.reads_now

@@ -1,6 +1,6 @@
 -- What clauses see of an engine, and what is always so of one.
-use Rattle.std.specs.Prelude.{◌≡◌, ◌⊎◌, ◌↔◌, ℕ, ◌+◌, ◌-◌, ◌^◌, ◌<◌, ◌≤◌, max, Bool, true, false, ◌||◌, nat_lt, ◌==◌, if◌then◌else◌, List, [], ◌∷◌, ◌++◌, length, take, drop, codes, Option, None, Some, is_some, option_map, Result, Ok, Err, IfSome, All, refl}
-use Rattle.std.specs.Coded.{Coded, code_by, coded×, coded_ℕ, coded_option}
+use Rattle.std.specs.Prelude.{◌≡◌, ◌⊎◌, ◌↔◌, IsTrue, zero, suc, ◌&&◌, nat_le, ℕ, ◌+◌, ◌-◌, ◌*◌, ◌^◌, ◌<◌, ◌≤◌, max, Bool, true, false, ◌||◌, nat_lt, ◌==◌, if◌then◌else◌, List, [], ◌∷◌, ◌++◌, length, take, drop, Option, None, Some, is_some, option_map, Result, Ok, Err, IfSome, All, refl}
+use Rattle.std.specs.Coded.{Coded, code_by, coded×, coded_ℕ, coded_option, coded_list}
 use Rattle.amq_model.specs.declared.record.Record.{Record}
 use Rattle.amq_model.specs.declared.record.Placed.{Placed}
 use Rattle.amq_model.specs.declared.command.Command.{Command}
@@ -18,7 +18,7 @@ use Rattle.amq_model.specs.RecordAt.{len_of, spelling}
 use Rattle.amq_model.specs.declared.directory.OpenFault.{OpenFault}
 use Rattle.amq_model.specs.declared.directory.OpenFault.TheVariants as o
 use Rattle.amq_model.specs.Calls.{Past, listing, fine, noted, counted}
-use Rattle.amq_model.specs.Files.{FileName, Files}
+use Rattle.amq_model.specs.Files.{Files}
 use Rattle.amq_model.specs.Leaves.{Leaves, Unchanged, AllReads, HoldsSince, Told}
 use Rattle.amq_model.specs.Answers.{record_of, history_of, limit, too_large, first_some}
 use Rattle.amq_model.specs.Legal.{AreLegal}
@@ -28,6 +28,9 @@ use Rattle.amq_tx.specs.State.{TxState}
 use Rattle.amq_tx.specs.Follows.{Follows}
 use Rattle.amq_model.specs.declared.history.Step.{Step}
 use Rattle.amq_scan.specs.Written.{Item, IsItem, spelled, end_from}
+use Rattle.amq_scan.specs.Segments.{Segment, records_of, IsDirectory}
+use Rattle.amq_pool.specs.declared.pool.PoolFile.{PoolFile}
+use Rattle.amq_pool.specs.Pools.{PoolOf, IsPool, numbered_file, with_next}
 use Rattle.amq_engine.specs.declared.chronicle.Receipted.{Receipted}
 use Rattle.amq_engine.specs.declared.tail.Tail.{Tail}
 use Rattle.amq_io.specs.Cause.{Rose, Faults}
@@ -35,8 +38,7 @@ use Rattle.amq_io.specs.declared.faults.DiskFault.{DiskFault}
 use Rattle.amq_io.specs.declared.faults.DiskFault.TheVariants as f
 use Rattle.amq_engine.specs.Lists.{Lists, with_step, with_receipt}
 use Rattle.amq_engine.specs.Receipts.{AreInOrder, IsLastCount, IsCrashSafe}
-use Rattle.amq_engine.specs.Prepare.{Prepares}
-use Rattle.amq_engine.specs.OneFile.{header_of, placed_in, Holds, IsFresh, IsEmpty}
+use Rattle.amq_engine.specs.Directory.{placed_in, IsEmpty, AreListed, all_files, files_from, StandsNow}
 
 -- ---- the value
 
@@ -77,7 +79,7 @@ config_code =
     (λ p. record { file_size = p.0; min_files = p.1.0; pool_files = p.1.1.0; compact_min_files = p.1.1.1.0; compact_percentage = p.1.1.1.1.0; buffer_size = p.1.1.1.1.1.0; buffer_timeout = p.1.1.1.1.1.1.0; user_version = p.1.1.1.1.1.1.1 })
     (λ _. refl)
 
--- What clauses see of an engine: its disk and chronicle, the parameters, how many appends there were, how many of them are durable, how many bytes the others take in the buffer, since when the first of those waits, the clock, and the call after which it is closed.
+-- What clauses see of an engine: its disk and chronicle, the parameters, how many appends there were, how many of them are durable, how many bytes the others take in the buffer, since when the first of those waits, the id of the file in use, where the last append ends in it, the greatest number of a file so far, the ids of the files that are prepared, the clock, and the call after which it is closed.
 pub record EngineOf (D C : Type 0) : Type 0 where
   pub disk : D
   pub chronicle : C
@@ -86,14 +88,25 @@ pub record EngineOf (D C : Type 0) : Type 0 where
   pub durable : ℕ
   pub waiting : ℕ
   pub since : Option ℕ
+  pub file : ℕ
+  pub end : ℕ
+  pub highest : ℕ
+  pub free : List ℕ
   pub clock : ℕ
   pub closed : Option DiskCall
 
+-- four numbers and a list of them
+abbrev pub Place : Type 0
+Place = ℕ × (ℕ × (ℕ × List ℕ))
+
+abbrev pub place_code : Coded Place
+place_code = coded× coded_ℕ (coded× coded_ℕ (coded× coded_ℕ (coded_list coded_ℕ)))
+
 abbrev pub engine_code : {D C : Type 0} → Coded D → Coded C → Coded (EngineOf D C)
 engine_code {D} {C} d c =
-    code_by (D × (C × (Config × (ℕ × (ℕ × (ℕ × (Option ℕ × (ℕ × Option DiskCall)))))))) (coded× d (coded× c (coded× config_code (coded× coded_ℕ (coded× coded_ℕ (coded× coded_ℕ (coded× (coded_option coded_ℕ) (coded× coded_ℕ (coded_option call_code)))))))))
-    (λ e. (e.disk, (e.chronicle, (e.config, (e.appended, (e.durable, (e.waiting, (e.since, (e.clock, e.closed)))))))))
-    (λ p. record { disk = p.0; chronicle = p.1.0; config = p.1.1.0; appended = p.1.1.1.0; durable = p.1.1.1.1.0; waiting = p.1.1.1.1.1.0; since = p.1.1.1.1.1.1.0; clock = p.1.1.1.1.1.1.1.0; closed = p.1.1.1.1.1.1.1.1 })
+    code_by (D × (C × (Config × (ℕ × (ℕ × (ℕ × (Option ℕ × (Place × (ℕ × Option DiskCall))))))))) (coded× d (coded× c (coded× config_code (coded× coded_ℕ (coded× coded_ℕ (coded× coded_ℕ (coded× (coded_option coded_ℕ) (coded× place_code (coded× coded_ℕ (coded_option call_code))))))))))
+    (λ e. (e.disk, (e.chronicle, (e.config, (e.appended, (e.durable, (e.waiting, (e.since, ((e.file, (e.end, (e.highest, e.free))), (e.clock, e.closed))))))))))
+    (λ p. record { disk = p.0; chronicle = p.1.0; config = p.1.1.0; appended = p.1.1.1.0; durable = p.1.1.1.1.0; waiting = p.1.1.1.1.1.0; since = p.1.1.1.1.1.1.0; file = p.1.1.1.1.1.1.1.0.0; end = p.1.1.1.1.1.1.1.0.1.0; highest = p.1.1.1.1.1.1.1.0.1.1.0; free = p.1.1.1.1.1.1.1.0.1.1.1; clock = p.1.1.1.1.1.1.1.1.0; closed = p.1.1.1.1.1.1.1.1.1 })
     (λ _. refl)
 
 -- ---- the end of the file in use
@@ -108,25 +121,47 @@ emptied b = record { bytes = []; capacity = b.capacity; timeout = b.timeout; sin
 
 -- behind a flush
 abbrev pub written_out : Tail → Tail
-written_out t = record { buffer = emptied t.buffer; end = end_of_tail t; appended = t.appended; durable = if is_some t.buffer.since then t.appended else t.durable }
+written_out t = record { file = t.file; buffer = emptied t.buffer; end = end_of_tail t; appended = t.appended; durable = if is_some t.buffer.since then t.appended else t.durable }
 
 -- one record more waits in the buffer, where there is one
 abbrev pub with_put : ℕ → Option Record → Tail → Tail
 with_put now None t = t
 with_put now (Some rec) t = record {
-  buffer = record { bytes = t.buffer.bytes ++ spelling 2 1 0 rec; capacity = t.buffer.capacity; timeout = t.buffer.timeout; since = begun now t.buffer.since };
+  file = t.file;
+  buffer = record { bytes = t.buffer.bytes ++ spelling 2 t.file.id 0 rec; capacity = t.buffer.capacity; timeout = t.buffer.timeout; since = begun now t.buffer.since };
   end = t.end;
   appended = t.appended + 1;
   durable = t.durable;
 }
 
--- ready for a command that flushes first, or doesn't
-abbrev pub readied : Bool → Tail → Tail
-readied flushes_first t = if flushes_first then written_out t else t
+-- the file that the journal goes on to: the prepared one with the least id, or the one that is prepared for it
+abbrev pub next_file : PoolOf → PoolFile
+next_file p = elim p.prepared [ [] ↦ numbered_file (p.highest + 1) | f ∷ fs ↦ f ]
+
+-- the pool behind it
+abbrev pub without_next : PoolOf → PoolOf
+without_next p = elim p.prepared [ [] ↦ record { config = p.config; highest = p.highest + 1; prepared = [] } | f ∷ fs ↦ record { config = p.config; highest = p.highest; prepared = fs } ]
+
+-- the end of this file, where nothing stands in it yet
+abbrev pub gone_on : PoolFile → Tail → Tail
+gone_on f t = record { file = f; buffer = t.buffer; end = 16; appended = t.appended; durable = t.durable }
+
+-- ready for a command that goes on to a further file first, or flushes first, or neither
+abbrev pub readied : Bool → Bool → PoolOf → Tail → Tail
+readied moves_first flushes_first p t = if moves_first then gone_on (next_file p) (written_out t) else (if flushes_first then written_out t else t)
+
+-- the pool with so many files more
+abbrev pub with_files : ℕ → PoolOf → PoolOf
+with_files zero p = p
+with_files (suc n) p = with_next (with_files n p)
+
+-- the pool behind the command
+abbrev pub pool_readied : Bool → PoolOf → PoolOf
+pool_readied moves_first p = if moves_first then without_next p else p
 
 -- where the record stands that is put next
 abbrev pub placed_behind : Tail → Record → Placed
-placed_behind t rec = record { file = 1; place = end_of_tail t; compact = 0; rec = rec }
+placed_behind t rec = record { file = t.file.id; place = end_of_tail t; compact = 0; rec = rec }
 
 -- the reply to a command without a record, behind so many appends: by the number that it was given, if it was
 abbrev pub bare_reply : ℕ → Option ℕ → Reply
@@ -140,60 +175,76 @@ reply_of t given (Some rec) = Appended t.appended
 
 -- ---- what is always so
 
--- the data file's name, and the name under which it is prepared
-abbrev pub data_name : FileName
-data_name = codes "activemq-data-1.amq"
-
-abbrev pub temporary_name : FileName
-temporary_name = codes "activemq-data-1.amq.tmp"
-
 -- a record as it is written first
 pub record IsNewItem (x : Item) : Type 0 where
   pub item : IsItem 2 x
   pub first : x.compact ≡ 0
 
--- what each reading holds of a history of which so many records are durable: the one file, or, before the first, none
-abbrev pub MayHold : Config → ℕ → List Item → Files → Type 0
-MayHold config sure history s =
-    Holds data_name (header_of config.user_version 1) 1 config.file_size sure history s ⊎ ((sure ≡ 0) × IsFresh temporary_name s)
+-- What each reading holds of a base and a history of which so many records are durable: the base and a front of the history, in the order of the files; and what isn't durable of it stands in one file.
+pub record Holds (wanted : ℕ) (base : List Placed) (least : ℕ) (history : List Placed) (s : Files) : Type 0 where
+  pub files : List Segment
+  pub sure : ℕ
+  pub put : ℕ
+  pub enough : least ≤ sure
+  pub ahead : sure ≤ put
+  pub within : put ≤ length history
+  pub is : IsDirectory wanted (length base + sure) files s
+  pub records : records_of files ≡ base ++ take put history
+  pub last : ℕ
+  pub one : All (λ p. p.file ≡ last) (drop sure (take put history))
 
 -- each receipt is kept: since its moment every reading holds as many records
-abbrev pub AreKept : Option Past → Config → ℕ → List Item → List Receipted → Type 0
-AreKept past config durable history [] = Unit {0}
-AreKept past config durable history (q ∷ qs) =
-    ((q.durable ≤ durable) × (q.moment < 2 ^ 64 - 1 → HoldsSince past q.moment (MayHold config q.durable history))) × AreKept past config durable history qs
+abbrev pub AreKept : Option Past → ℕ → ℕ → List Placed → List Receipted → Type 0
+AreKept past wanted durable history [] = Unit {0}
+AreKept past wanted durable history (q ∷ qs) =
+    ((q.durable ≤ durable) × (q.moment < 2 ^ 64 - 1 → HoldsSince past q.moment (Holds wanted [] q.durable history))) × AreKept past wanted durable history qs
 
 -- the chronicle has the steps of the engine, and its receipts are kept
-pub record IsTold (past : Option Past) (config : Config) (durable : ℕ) (history : List Item) (steps : List Step) (l : Lists) : Type 0 where
+pub record IsTold (past : Option Past) (wanted durable : ℕ) (history : List Placed) (steps : List Step) (l : Lists) : Type 0 where
   pub base : l.base ≡ []
   pub same : l.steps ≡ steps
-  pub kept : AreKept past config durable history l.receipts
+  pub kept : AreKept past wanted durable history l.receipts
 
--- what is so of a journal whose history goes on in the buffer: its steps are legal, and the table is that of the steps
-pub record IsSound (past : Option Past) (lists : Option Lists) (receipt_room : ℕ) (config : Config) (table : TxState) (tail : Tail) : Type 0 where
-  pub history : List Item
+-- the records of the closed files and of the file in use
+abbrev pub records : List Segment → PoolFile → List Item → List Placed
+records closed used items = records_of closed ++ placed_in used.id items
+
+-- What is so of the parts of an engine, whatever the disk reads: the steps are legal, and the table is that of the steps; the closed files and the file in use have the history, which goes on in the buffer.
+pub record Parts (config : Config) (table : TxState) (pool : PoolOf) (tail : Tail) : Type 0 where
+  pub closed : List Segment
+  pub items : List Item
+  pub sure : ℕ
   pub steps : List Step
-  pub items : All IsNewItem history
-  pub placed : history_of steps ≡ placed_in 1 history
+  pub new : All IsNewItem items
+  pub placed : history_of steps ≡ records closed tail.file items
   pub legal : AreLegal [] steps config
   pub follows : Follows table [] steps
-  pub size_least : 64 ≤ config.file_size
-  pub size_most : config.file_size ≤ 268435456
+  pub same_config : pool.config ≡ config
+  pub pool_is : IsPool pool
+  pub listed : AreListed pool.highest 1 (all_files closed tail.file pool.prepared)
+  pub numbered : all_files closed tail.file pool.prepared ≡ files_from 1 pool.highest
+  pub numbers : pool.highest ≤ 2 ^ 31 - 1
+  pub few : length (records_of closed) ≤ tail.file.id * 268435456
   pub capacity : tail.buffer.capacity ≡ config.buffer_size
   pub timeout : tail.buffer.timeout ≡ config.buffer_timeout
   pub first : (tail.buffer.since ≡ None) ↔ (tail.buffer.bytes ≡ [])
-  pub count : tail.appended ≡ length history
-  pub most : tail.durable ≤ tail.appended
-  pub reads_now : AllReads past (Holds data_name (header_of config.user_version 1) 1 config.file_size tail.durable history)
-  pub buffered : tail.buffer.bytes ≡ spelled 2 1 (drop tail.durable history)
-  pub place : tail.end ≡ end_from 2 16 (take tail.durable history)
+  pub some : sure ≤ length items
+  pub durable : tail.durable ≡ length (records_of closed) + sure
+  pub count : tail.appended ≡ length (records_of closed) + length items
+  pub buffered : tail.buffer.bytes ≡ spelled 2 tail.file.id (drop sure items)
+  pub place : tail.end ≡ end_from 2 16 (take sure items)
   pub fits : end_of_tail tail ≤ config.file_size
+
+-- so it is, and what the disk reads and what the chronicle tells is as the parts say
+pub record IsSound (past : Option Past) (lists : Option Lists) (receipt_room : ℕ) (config : Config) (table : TxState) (pool : PoolOf) (tail : Tail) : Type 0 where
+  pub parts : Parts config table pool tail
+  pub reads_now : AllReads past (StandsNow config parts.closed tail.file parts.sure parts.items pool.highest pool.prepared)
   pub room : (tail.buffer.bytes ≡ [] → ⊥) → 1 ≤ receipt_room
-  pub told : IfSome lists (IsTold past config tail.durable history steps)
+  pub told : IfSome lists (IsTold past config.user_version tail.durable (records parts.closed tail.file parts.items) parts.steps)
 
 -- the same, with the range of the parameters, and receipts in order, the last of which counts what is durable
-pub record IsValid (past : Option Past) (moment : ℕ) (lists : Option Lists) (receipt_room : ℕ) (config : Config) (table : TxState) (tail : Tail) : Type 0 where
-  pub sound : IsSound past lists receipt_room config table tail
+pub record IsValid (past : Option Past) (moment : ℕ) (lists : Option Lists) (receipt_room : ℕ) (config : Config) (table : TxState) (pool : PoolOf) (tail : Tail) : Type 0 where
+  pub sound : IsSound past lists receipt_room config table pool tail
   pub ranges : IsConfig config
   pub order : IfSome lists (λ l. AreInOrder moment l.receipts)
   pub last : IfSome lists (λ l. IsLastCount tail.durable l.receipts)
@@ -207,23 +258,24 @@ pub record IsChronicle (past : Option Past) (moment : ℕ) (config : Config) (ap
 
 -- ---- commands
 
--- the file's rest is shorter than the record
-abbrev pub full : Config → ℕ → Command → Option Refusal
-full config end command = elim (record_of command 0) [ None ↦ None | Some rec ↦ (if nat_lt (config.file_size - end) (len_of rec) then Some (r.FileFull (len_of rec) (config.file_size - end)) else None) ]
+-- a record of this length, put behind the last append, would end behind the end of the file
+abbrev pub passes : ℕ → ℕ → Option ℕ → Bool
+passes size end None = false
+passes size end (Some len) = nat_lt size (end + len)
+
+-- no number is left for a file that is needed
+abbrev pub spent : Bool → ℕ → List ℕ → Option Refusal
+spent moves_first highest [] = if moves_first && nat_le (2 ^ 31 - 1) highest then Some (r.FileIdsSpent highest) else None
+spent moves_first highest (id ∷ ids) = None
 
 -- the refusal of a record of this length, if it is above the limit
 abbrev pub too_long : Config → Option ℕ → Option Refusal
 too_long config None = None
 too_long config (Some len) = if nat_lt (limit config) len then Some (r.TooLarge len (limit config)) else None
 
--- the refusal of a record of this length, if no more than this is left of the file
-abbrev pub over : ℕ → Option ℕ → Option Refusal
-over left None = None
-over left (Some len) = if nat_lt left len then Some (r.FileFull len left) else None
-
--- the refusal of a command where the last append ends at `end`, by what the ids and transactions refuse of it
-abbrev pub refused : Config → Option Refusal → ℕ → Command → Option Refusal
-refused config by_table end command = first_some (too_large config command ∷ by_table ∷ full config end command ∷ [])
+-- the refusal of a command, by what the ids and transactions refuse of it, and by the numbers of files
+abbrev pub refused : Config → Option Refusal → Option Refusal → Command → Option Refusal
+refused config by_table by_numbers command = first_some (too_large config command ∷ by_table ∷ by_numbers ∷ [])
 
 -- a refusal that depends on the command
 abbrev pub IsCommandRefusal : Refusal → Type 0
@@ -234,7 +286,7 @@ IsCommandRefusal (r.Held id tx) = Unit {0}
 IsCommandRefusal (r.AlreadyLive id) = Unit {0}
 IsCommandRefusal (r.NoRecord id) = Unit {0}
 IsCommandRefusal (r.TxNumbersSpent highest) = Unit {0}
-IsCommandRefusal (r.FileFull len left) = Unit {0}
+IsCommandRefusal (r.FileIdsSpent highest) = Unit {0}
 IsCommandRefusal _ = ⊥
 
 -- a refusal of a command: for the command, or since the engine is closed, for a disk call, or for want of memory
@@ -256,10 +308,11 @@ is_noted (Err (r.Disk call)) = false
 is_noted (Err r.NoMemory) = false
 is_noted _ = true
 
--- The chronicle has one step more, with this answer, or has none.
-pub record Notes (seat number : ℕ) (command : Command) (result : Result Reply Refusal) (old new : Option Lists) : Type 0 where
+-- The chronicle has one step more, with this answer, or has none. Its record, if it has one, ends there in that file.
+pub record Notes (seat number : ℕ) (command : Command) (result : Result Reply Refusal) (file end : ℕ) (old new : Option Lists) : Type 0 where
   pub placed : Option Placed
   pub is : new ≡ (if is_noted result then option_map (with_step (record { seat = seat; number = number; command = command; answer = answer_of result; placed = placed })) old else old)
+  pub stands : IfSome placed (λ p. (p.file ≡ file) × (p.place + len_of p.rec ≡ end))
 
 -- the reply to a command that is accepted behind so many appends; which number a Begin is given is what the steps say
 abbrev pub IsReply : ℕ → Command → Reply → Type 0
@@ -286,6 +339,23 @@ overflows capacity waiting (Some len) = nat_lt capacity (waiting + len)
 abbrev pub flushes : ℕ → ℕ → Command → Bool
 flushes capacity waiting command = is_flush command || overflows capacity waiting (record_len command)
 
+-- there is none
+abbrev pub is_nil : {A : Type 0} → List A → Bool
+is_nil [] = true
+is_nil (x ∷ xs) = false
+
+-- whether the journal goes on to a further file first: the command's record doesn't fit the rest of the file in use
+abbrev pub moves : {D C : Type 0} → EngineOf D C → Command → Bool
+moves e command = passes e.config.file_size e.end (record_len command)
+
+-- whether one is prepared for it
+abbrev pub prepares : {D C : Type 0} → EngineOf D C → Command → Bool
+prepares e command = moves e command && is_nil e.free
+
+-- whether a command that is accepted makes a disk call
+abbrev pub asks_disk : {D C : Type 0} → EngineOf D C → Command → Bool
+asks_disk e command = ((moves e command || flushes e.config.buffer_size e.waiting command) && is_some e.since) || prepares e command
+
 -- ---- what calls leave
 
 -- behind a flush all is durable and nothing waits
@@ -295,11 +365,22 @@ flushed e = record e { durable = e.appended; waiting = 0; since = None }
 -- one record more waits, of this length, where there is one
 abbrev pub with_record : {D C : Type 0} → Option ℕ → EngineOf D C → EngineOf D C
 with_record None e = e
-with_record (Some len) e = record e { appended = e.appended + 1; waiting = e.waiting + len; since = begun e.clock e.since }
+with_record (Some len) e = record e { appended = e.appended + 1; waiting = e.waiting + len; since = begun e.clock e.since; end = e.end + len }
+
+-- behind a move: nothing stands in the next file yet
+abbrev pub moved : {D C : Type 0} → EngineOf D C → EngineOf D C
+moved e = elim e.free [
+  | [] ↦ record (flushed e) { file = e.highest + 1; end = 16; highest = e.highest + 1 }
+  | id ∷ ids ↦ record (flushed e) { file = id; end = 16; free = ids }
+]
 
 -- behind a command that was accepted
 abbrev pub behind_command : {D C : Type 0} → Command → EngineOf D C → EngineOf D C
-behind_command command e = with_record (record_len command) (if flushes e.config.buffer_size e.waiting command then flushed e else e)
+behind_command command e = with_record (record_len command) (if moves e command then moved e else (if flushes e.config.buffer_size e.waiting command then flushed e else e))
+
+-- Behind a command that was refused: as before it; or, where memory was wanted for a further file or a call for it failed, all is durable.
+abbrev pub BehindRefused : {D C : Type 0} → Command → EngineOf D C → EngineOf D C → Type 0
+BehindRefused command e new = (new ≡ record e { disk = new.disk; chronicle = new.chronicle; closed = new.closed }) ⊎ (IsTrue (prepares e command) × (new ≡ record (flushed e) { disk = new.disk; chronicle = new.chronicle; closed = new.closed }))
 
 -- the clock never goes back
 abbrev pub at_clock : {D C : Type 0} → ℕ → EngineOf D C → EngineOf D C
@@ -327,6 +408,14 @@ closed_after _ closed = closed
 abbrev pub receipted : Bool → ℕ → ℕ → Option Lists → Option Lists
 receipted something appended moment lists = if something then option_map (with_receipt appended moment) lists else lists
 
+-- what waited waits on, and nothing is noted
+abbrev pub Waits : Tail → Option Lists → Tail → Option Lists → Type 0
+Waits t lists u new = (u ≡ t) × (new ≡ lists)
+
+-- what waited is written out, in two calls from this moment on, and its receipt is noted
+abbrev pub Wrote : ℕ → Tail → Option Lists → Tail → Option Lists → Type 0
+Wrote moment t lists u new = (u ≡ written_out t) × (new ≡ receipted (is_some t.buffer.since) t.appended (counted (counted moment)) lists)
+
 -- a refusal for a disk call comes only where the count of faults rose, and names the call that failed last
 abbrev pub HasCause : {T : Type 0} → Result T Refusal → Faults → Faults → Type 0
 HasCause (Err (r.Disk call)) old new = Rose old.0 new.0 × (new.1 ≡ Some call)
@@ -340,23 +429,13 @@ pub record AreBegun (moment : ℕ) (l : Lists) : Type 0 where
   pub steps : l.steps ≡ []
   pub receipts : l.receipts ≡ record { durable = 0; moment = moment } ∷ []
 
--- what an opening leaves: the one file, without records, and the chronicle begun
-pub record IsBegun (past : Option Past) (moment : ℕ) (lists : Option Lists) (receipt_room : ℕ) (config : Config) : Type 0 where
-  pub order : IfSome lists (λ l. AreInOrder moment l.receipts)
-  pub last : IfSome lists (λ l. IsLastCount 0 l.receipts)
-  pub reads_now : AllReads past (Holds data_name (header_of config.user_version 1) 1 config.file_size 0 [])
-  pub room : 1 ≤ receipt_room
-  pub told : IfSome lists (IsTold past config 0 [] [])
-
 -- nothing is told yet
 abbrev pub IsBlank : Lists → Type 0
 IsBlank l = (l.base ≡ []) × (l.steps ≡ []) × (l.receipts ≡ [])
 
--- How far an opening came: it only asked what is there, or it listed the directory, noted the receipt of nothing at once, and then only prepared the one file.
-abbrev pub HasCome : Config → ℕ → Option Past → Option Past → Lists → Type 0
-HasCome config moment old new l =
-    ((l.receipts ≡ []) × Leaves Unchanged Unchanged old new)
-    ⊎ (AreBegun (counted moment) l × Leaves (Prepares temporary_name data_name config.file_size 74 (header_of config.user_version 1)) (Prepares temporary_name data_name config.file_size 74 (header_of config.user_version 1)) (option_map (noted listing fine) old) new)
+-- How far an opening came: it only asked what is there, or it noted the receipt of nothing behind its first call.
+abbrev pub HasCome : ℕ → Option Past → Option Past → Lists → Type 0
+HasCome moment old new l = ((l.receipts ≡ []) × Leaves Unchanged Unchanged old new) ⊎ AreBegun (counted moment) l
 
 -- a refusal of a flush or a tick: since the engine is closed, for a disk call, or for want of memory
 abbrev pub IsFlushRefusal : Refusal → Type 0

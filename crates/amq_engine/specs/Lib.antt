@@ -1,7 +1,6 @@
 pub mod Logs
 pub mod Lists
-pub mod OneFile
-pub mod Prepare
+pub mod Directory
 pub mod Puts
 pub mod Receipts
 pub mod Engine

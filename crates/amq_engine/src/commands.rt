@@ -7,18 +7,20 @@ ghost use Rattle.amq_model.specs.Legal.{number_for};
 ghost use Rattle.amq_tx.specs.Tables.{state_of, HasRoom};
 ghost use Rattle.amq_tx.specs.Refusing.{refusal_in};
 ghost use Rattle.amq_tx.specs.Follows.{Follows};
-ghost use Rattle.amq_engine.specs.Engine.{IsCommandRefusal, refused, record_len, too_long, over};
+ghost use Rattle.amq_pool.specs.Pools.{ids_of};
+ghost use Rattle.amq_engine.specs.Engine.{IsCommandRefusal, refused, record_len, too_long, spent};
 
 use crate::chronicle::Chronicle;
-use crate::tail::FILE;
+use crate::moving::MOST_NUMBER;
 use amq_model::{Bytes, Command, Config, NoMemory, Record, Refusal};
+use amq_pool::Pool;
 use amq_record::encoded_len;
 use amq_tx::TxTable;
 use std::alloc::Global;
 
-/// The record of a command, if it has one, with this number of records.
-fn record_for(alloc: Global, command: &Command, count: u32) -> Result<Option<Record>, NoMemory>
-    ensures record { IfOk result (λ rec. rec ≡ record_of command.now count) }
+/// The record of a command, if it has one, with 0 as the number of records.
+fn record_for(alloc: Global, command: &Command) -> Result<Option<Record>, NoMemory>
+    ensures record { IfOk result (λ rec. rec ≡ record_of command.now 0) }
     ensures length { IfOk result (λ rec. option_map len_of rec ≡ record_len command.now) }
     ensures values { IfOk result (λ rec. IfSome rec (λ rec. len_of rec < 2 ^ 31 → IsRecord rec)) }
 {
@@ -71,10 +73,10 @@ fn record_for(alloc: Global, command: &Command, count: u32) -> Result<Option<Rec
         })),
         Command::Prepare { tx, extra } => Ok(Some(Record::Prepare {
             tx: *tx,
-            count,
+            count: 0,
             extra: copy_of(alloc, extra)?,
         })),
-        Command::Commit { tx } => Ok(Some(Record::Commit { tx: *tx, count })),
+        Command::Commit { tx } => Ok(Some(Record::Commit { tx: *tx, count: 0 })),
         Command::Rollback { tx } => Ok(Some(Record::Rollback { tx: *tx })),
         Command::Begin | Command::Flush => Ok(None),
     }
@@ -91,29 +93,45 @@ fn copy_of(alloc: Global, body: &Bytes) -> Result<Bytes, NoMemory>
     }
 }
 
-/// The number that a PREPARE or COMMIT has in the file: that of its transaction's adds, updates and
-/// deletes there. It is 0 for other commands.
-fn count_for(table: &TxTable, command: &Command) -> u32
-    ensures { (steps : List Step) → Follows (state_of table.now) [] steps → record_of command.now result ≡ record_of command.now (number_for (history_of steps) command.now FILE) }
+/// The record of a command that comes to stand in this file, with its number of records: in a PREPARE
+/// and a COMMIT that of its transaction's adds, updates and deletes there.
+pub fn numbered(
+    table: &TxTable,
+    command: &Command,
+    file: u64,
+    rec: Option<Record>,
+) -> Option<Record>
+    requires record { rec ≡ record_of command.now 0 }
+    ensures record { (steps : List Step) → Follows (state_of table.now) [] steps → result ≡ record_of command.now (number_for (history_of steps) command.now file) }
+    ensures length { option_map len_of result ≡ option_map len_of rec }
+    ensures values { IfSome rec IsRecord → IfSome result IsRecord }
 {
-    match command {
-        Command::Prepare { tx, .. } | Command::Commit { tx } => table.count_in(*tx, FILE),
-        _ => 0,
+    match rec {
+        Some(Record::Prepare { tx, extra, .. }) => Some(Record::Prepare {
+            tx,
+            count: table.count_in(tx, file),
+            extra,
+        }),
+        Some(Record::Commit { tx, .. }) => Some(Record::Commit {
+            tx,
+            count: table.count_in(tx, file),
+        }),
+        other => other,
     }
 }
 
-/// What refuses a command, in the order in which refusals are tried, where the last append ends at `end`.
+/// What refuses a command, in the order in which refusals are tried.
 pub fn refusal_of(
     config: &Config,
     table: &TxTable,
-    end: u64,
+    pool: &Pool,
+    moves: bool,
     command: &Command,
     rec: &Option<Record>,
 ) -> Option<Refusal>
     requires record { option_map len_of rec.now ≡ record_len command.now }
     requires size { 16 ≤ config.now.file_size }
-    requires within { end ≤ config.now.file_size }
-    ensures first { result ≡ refused config.now (refusal_in (state_of table.now) command.now) end command.now }
+    ensures first { result ≡ refused config.now (refusal_in (state_of table.now) command.now) (spent moves pool.now.highest (ids_of pool.now.prepared)) command.now }
     ensures kind { IfSome result IsCommandRefusal }
 {
     if let Some(refusal) = length_refusal(config, rec) {
@@ -122,7 +140,7 @@ pub fn refusal_of(
     if let Err(refusal) = table.check(command) {
         return Some(refusal);
     }
-    room_refusal(config.file_size - end, rec)
+    number_refusal(pool, moves)
 }
 
 /// The refusal of a record that is longer than the limit.
@@ -138,13 +156,16 @@ fn length_refusal(config: &Config, rec: &Option<Record>) -> Option<Refusal>
     None
 }
 
-/// The refusal of a record that is longer than what is left of the file.
-fn room_refusal(left: u64, rec: &Option<Record>) -> Option<Refusal>
-    ensures first { result ≡ over left (option_map len_of rec.now) }
+/// The refusal where a further file is needed, none is prepared, and the numbers of files are spent.
+fn number_refusal(pool: &Pool, moves: bool) -> Option<Refusal>
+    ensures first { result ≡ spent moves pool.now.highest (ids_of pool.now.prepared) }
 {
-    let len = encoded_len(rec.as_ref()?);
-    if left < len {
-        return Some(Refusal::FileFull { len, left });
+    if pool.free_count() > 0 {
+        return None;
+    }
+    let highest = pool.highest();
+    if moves && highest >= MOST_NUMBER {
+        return Some(Refusal::FileIdsSpent { highest });
     }
     None
 }
@@ -164,11 +185,11 @@ pub fn room_for<C: Chronicle>(
     ensures room { C.receipt_room chronicle.old ≤ C.receipt_room chronicle.new }
     ensures table { state_of table.new ≡ state_of table.old }
     ensures reserved { OnOk result (HasRoom table.new command.now) }
-    ensures record { IfOk result (λ rec. (steps : List Step) → Follows (state_of table.old) [] steps → rec ≡ record_of command.now (number_for (history_of steps) command.now FILE)) }
+    ensures record { IfOk result (λ rec. rec ≡ record_of command.now 0) }
     ensures length { IfOk result (λ rec. option_map len_of rec ≡ record_len command.now) }
     ensures values { IfOk result (λ rec. IfSome rec (λ rec. len_of rec < 2 ^ 31 → IsRecord rec)) }
 {
     chronicle.room()?;
     table.reserve(command)?;
-    record_for(alloc, command, count_for(table, command))
+    record_for(alloc, command)
 }

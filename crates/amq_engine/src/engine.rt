@@ -1,42 +1,43 @@
 //! The journal over one disk.
-ghost use Rattle.std.specs.Prelude.{◌≡◌, ◌⊎◌, ◌↔◌, ◌+◌, ◌<◌, ◌≤◌, ◌&&◌, max, false, true, if◌then◌else◌, [], length, None, Some, is_ok, is_some, Ok, Err, IfSome, IsSome, IfOk, IfErr, OnOk, OnErr};
+ghost use Rattle.std.specs.Prelude.{◌≡◌, ◌⊎◌, ◌↔◌, ◌+◌, ◌<◌, ◌≤◌, ◌&&◌, ◌-◌, ◌^◌, ℕ, max, nat_lt, false, true, if◌then◌else◌, [], length, None, Some, is_ok, is_some, Ok, Err, IfSome, IsSome, IfOk, IfErr, OnOk, OnErr};
 ghost use Rattle.amq_model.specs.Configs.{IsConfig};
 ghost use Rattle.amq_model.specs.Calls.{counted};
 ghost use Rattle.amq_model.specs.Leaves.{Told};
 ghost use Rattle.amq_model.specs.declared.refusal.DiskCall.{DiskCall};
 ghost use Rattle.amq_model.specs.Answers.{history_of};
 ghost use Rattle.amq_buffer.specs.Buffered.{is_due};
-ghost use Rattle.amq_engine.specs.OneFile.{IsEmpty, IsJournalFile};
+ghost use Rattle.amq_pool.specs.Pools.{ids_of};
+ghost use Rattle.amq_engine.specs.Directory.{IsEmpty, IsJournal, files_from};
 ghost use Rattle.amq_engine.specs.Receipts.{IsCrashSafe};
-ghost use Rattle.amq_engine.specs.Engine.{Notes, IsCommandAnswer, IsCommandRefusal, IsChronicle, IsBlank, IsUnopened, AreBegun, HasCome, HasOpenCause, HasCause, IsFlushRefusal, closed_after, durable_after, fault_refusal, closed_by, receipted, IsReply, flushes, flushed, behind_command, behind_tick, must_flush, at_clock, data_name};
+ghost use Rattle.amq_engine.specs.Engine.{Notes, IsCommandAnswer, IsCommandRefusal, IsChronicle, IsBlank, IsUnopened, AreBegun, HasCome, HasOpenCause, HasCause, IsFlushRefusal, closed_after, durable_after, fault_refusal, closed_by, receipted, IsReply, prepares, asks_disk, flushed, behind_command, BehindRefused, behind_tick, must_flush, at_clock};
 
 use crate::chronicle::Chronicle;
-use crate::commands::{refusal_of, room_for};
-use crate::opening::begin;
-use crate::tail::{FILE, Tail, put_record, ready, write_out};
+use crate::commands::{numbered, refusal_of, room_for};
+use crate::moving::{FIRST_PLACE, fill_pool, passes, ready};
+use crate::opening::{begin, fault_of};
+use crate::tail::{Tail, put_record, write_out};
 use amq_buffer::TimedBuffer;
 use amq_io::{Disk, DiskFault};
 use amq_model::{
     Answer, Command, Config, DiskCall, Items, LoadState, OpenFault, Refusal, Reply, Step,
 };
+use amq_pool::Pool;
 use amq_tx::TxTable;
 use std::alloc::Global;
 use std::marker::Model;
 
-/// Where the first record of a file stands.
-const FIRST_PLACE: u64 = 16;
-
 /// The journal over one disk, owned by one thread.
 ///
-/// Until it moves to further files it has one. Appends wait in a
-/// buffer until they are flushed: when that is asked for, when the buffer has no room for the next one,
-/// or when the first of them is as old as the buffer's timeout.
+/// Appends wait in a buffer until they are flushed: when that is asked for, when the buffer has no room
+/// for the next one, when the first of them is as old as the buffer's timeout, or when the journal goes
+/// on to a further file, since the next record doesn't fit the rest of the one in use.
 pub struct Engine<D: Disk, C: Chronicle> {
     alloc: Global,
     disk: D,
     chronicle: C,
     config: Config,
     table: TxTable,
+    pool: Pool,
     tail: Tail,
     clock: u64,
     closed: Option<DiskCall>,
@@ -45,15 +46,16 @@ pub struct Engine<D: Disk, C: Chronicle> {
 impl<D: Disk, C: Chronicle> Model for Engine<D, C> {
     ghost use Rattle.std.specs.Prelude.{length};
     ghost use Rattle.amq_tx.specs.Tables.{state_of};
-    ghost use Rattle.amq_engine.specs.Engine.{EngineOf, engine_code, IsValid};
+    ghost use Rattle.amq_pool.specs.Pools.{ids_of};
+    ghost use Rattle.amq_engine.specs.Engine.{EngineOf, engine_code, end_of_tail, IsValid};
 
     ghost Value = { EngineOf D C };
 
     ghost coded = { engine_code D.code C.code };
 
-    ghost view = { λ e. record { disk = e.disk; chronicle = e.chronicle; config = e.config; appended = e.tail.appended; durable = e.tail.durable; waiting = length e.tail.buffer.bytes; since = e.tail.buffer.since; clock = e.clock; closed = e.closed } };
+    ghost view = { λ e. record { disk = e.disk; chronicle = e.chronicle; config = e.config; appended = e.tail.appended; durable = e.tail.durable; waiting = length e.tail.buffer.bytes; since = e.tail.buffer.since; file = e.tail.file.id; end = end_of_tail e.tail; highest = e.pool.highest; free = ids_of e.pool.prepared; clock = e.clock; closed = e.closed } };
 
-    ghost invariant = { λ e. IsValid (D.past e.disk) (D.moment e.disk) (C.lists e.chronicle) (C.receipt_room e.chronicle) e.config (state_of e.table) e.tail };
+    ghost invariant = { λ e. IsValid (D.past e.disk) (D.moment e.disk) (C.lists e.chronicle) (C.receipt_room e.chronicle) e.config (state_of e.table) e.pool e.tail };
 }
 
 /// Why a journal wasn't opened, with its disk and its chronicle.
@@ -78,7 +80,17 @@ impl<D: Disk, C: Chronicle> Engine<D, C> {
         self.tail.durable
     }
 
+    /// The id of the file in use.
+    pub fn file(&self) -> u64
+        ensures id { result ≡ self.now.file }
+        ensures number { result < 2 ^ 31 }
+    {
+        self.tail.file.id
+    }
+
     /// Opens a journal in an empty directory.
+    ///
+    /// It begins the first file, and prepares further ones until there are `min_files`.
     ///
     /// # Errors
     ///
@@ -93,6 +105,8 @@ impl<D: Disk, C: Chronicle> Engine<D, C> {
         requires config { IsConfig config }
         requires blank { IfSome (C.lists chronicle) IsBlank }
         ensures opened { IfOk result (λ e. (e.0.config ≡ config) × (e.0.appended ≡ 0) × (e.0.durable ≡ 0) × (e.0.waiting ≡ 0) × (e.0.since ≡ None) × (e.0.clock ≡ 0) × (e.0.closed ≡ None)) }
+        ensures files { IfOk result (λ e. (e.0.file ≡ 1) × (e.0.end ≡ 16) × (e.0.highest ≡ config.min_files) × (e.0.free ≡ ids_of (files_from 2 (config.min_files - 1)))) }
+        ensures content { IfOk result (λ e. Told (D.past e.0.disk) (IsJournal config.user_version 1 config.min_files [])) }
         ensures state { IfOk result (λ e. e.1 ≡ record { live = []; in_doubt = [] }) }
         ensures lists { IfOk result (λ e. IfSome (C.lists e.0.chronicle) (AreBegun (counted (D.moment disk)))) }
         ensures empty { OnOk result (Told (D.past disk) IsEmpty) }
@@ -105,8 +119,8 @@ impl<D: Disk, C: Chronicle> Engine<D, C> {
         ensures failed_safe { IfErr result (λ e. IfSome (C.lists e.chronicle) (IsCrashSafe (D.past e.disk) (D.moment e.disk) config.user_version)) }
         ensures failed_empty { IfErr result (λ e. IfSome (C.lists e.chronicle) (λ l. (l.receipts ≡ []) ⊎ Told (D.past disk) IsEmpty)) }
         ensures chronicle { IfOk result (λ e. IfSome (C.lists e.0.chronicle) (IsChronicle (D.past e.0.disk) (D.moment e.0.disk) config 0 0)) }
-        ensures come { IfOk result (λ e. IfSome (C.lists e.0.chronicle) (HasCome config (D.moment disk) (D.past disk) (D.past e.0.disk))) }
-        ensures failed_come { IfErr result (λ e. IfSome (C.lists e.chronicle) (HasCome config (D.moment disk) (D.past disk) (D.past e.disk))) }
+        ensures come { IfOk result (λ e. IfSome (C.lists e.0.chronicle) (HasCome (D.moment disk) (D.past disk) (D.past e.0.disk))) }
+        ensures failed_come { IfErr result (λ e. IfSome (C.lists e.chronicle) (HasCome (D.moment disk) (D.past disk) (D.past e.disk))) }
     {
         let table = match TxTable::new(alloc, Vec::new(alloc), Vec::new(alloc), 0) {
             Ok(table) => table,
@@ -128,11 +142,21 @@ impl<D: Disk, C: Chronicle> Engine<D, C> {
                 });
             }
         };
-        if let Err(fault) = begin(alloc, &mut disk, &mut chronicle, &config) {
+        let (mut pool, file) = match begin(alloc, &mut disk, &mut chronicle, &config) {
+            Ok(begun) => begun,
+            Err(fault) => {
+                return Err(OpenFailed {
+                    disk,
+                    chronicle,
+                    fault,
+                });
+            }
+        };
+        if let Err(fault) = fill_pool(&mut disk, &mut pool, config.min_files) {
             return Err(OpenFailed {
                 disk,
                 chronicle,
-                fault,
+                fault: fault_of(fault),
             });
         }
         let state = LoadState {
@@ -145,7 +169,9 @@ impl<D: Disk, C: Chronicle> Engine<D, C> {
             chronicle,
             config,
             table,
+            pool,
             tail: Tail {
+                file,
                 buffer,
                 end: FIRST_PLACE,
                 appended: 0,
@@ -159,20 +185,27 @@ impl<D: Disk, C: Chronicle> Engine<D, C> {
 
     /// Answers a command.
     ///
-    /// Its record waits in the buffer until a flush; where it doesn't fit there, what waits is flushed
-    /// first. The first refusal of `Closed`, `TooLarge`, `NoTx`, `TxPrepared`, `Held`, `AlreadyLive`,
-    /// `NoRecord`, `TxNumbersSpent` and `FileFull` that holds is the answer, before any disk call. After `NoMemory` the journal is as it was, and the
-    /// command can be given again.
+    /// Its record waits in the buffer until a flush. Where it doesn't fit there, what waits is flushed
+    /// first; where it doesn't fit the rest of the file in use, that too, and the journal goes on to the
+    /// prepared file with the least id, or to one prepared now. The first refusal of `Closed`,
+    /// `TooLarge`, `NoTx`, `TxPrepared`, `Held`, `AlreadyLive`, `NoRecord`, `TxNumbersSpent` and
+    /// `FileIdsSpent` that holds is the answer, before any disk call. After `NoMemory` the history, the
+    /// transactions and the live ids are as they were, and the command can be given again.
     pub fn command(&mut self, seat: u32, number: u64, command: Command) -> Result<Reply, Refusal>
         requires producer { 0 < seat }
-        ensures noted { Notes seat number command result (receipted (is_ok result && flushes self.old.config.buffer_size self.old.waiting command && is_some self.old.since) self.old.appended (D.moment self.new.disk) (C.lists self.old.chronicle)) (C.lists self.new.chronicle) }
+        ensures noted { Notes seat number command result self.new.file self.new.end (receipted (nat_lt self.old.durable self.new.durable) self.old.appended (counted (counted (D.moment self.old.disk))) (C.lists self.old.chronicle)) (C.lists self.new.chronicle) }
         ensures reply { IfOk result (IsReply self.old.appended command) }
         ensures ok { OnOk result (self.new ≡ record (behind_command command self.old) { disk = self.new.disk; chronicle = self.new.chronicle }) }
-        ensures err { OnErr result (self.new ≡ record self.old { disk = self.new.disk; chronicle = self.new.chronicle; closed = closed_after result self.old.closed }) }
+        ensures err { OnErr result (BehindRefused command self.old self.new) }
+        ensures closes { self.new.closed ≡ closed_after result self.old.closed }
+        ensures shut { IsSome self.old.closed → self.new ≡ self.old }
         ensures answers { IfErr result IsCommandAnswer }
-        ensures refused { IfErr result (λ refusal. IsCommandRefusal refusal → self.new.disk ≡ self.old.disk) }
-        ensures idle { (flushes self.old.config.buffer_size self.old.waiting command ≡ false) ⊎ ((self.old.since ≡ None) ⊎ IsSome self.old.closed) → self.new.disk ≡ self.old.disk }
-        ensures calls { D.moment self.new.disk ≤ D.moment self.old.disk + 2 }
+        ensures refused { IfErr result (λ refusal. IsCommandRefusal refusal → (self.new ≡ record self.old { chronicle = self.new.chronicle })) }
+        ensures spent { (highest : ℕ) → result ≡ Err (Refusal.FileIdsSpent highest) → (highest ≡ self.old.highest) × (highest ≡ 2 ^ 31 - 1) × (prepares self.old command ≡ true) }
+        ensures numbers { OnOk result (prepares self.old command ≡ true → self.old.highest < 2 ^ 31 - 1) }
+        ensures idle { (asks_disk self.old command ≡ false) ⊎ IsSome self.old.closed → self.new.disk ≡ self.old.disk }
+        ensures spared { prepares self.old command ≡ true → 2 ^ 31 - 1 ≤ self.old.highest → self.new.disk ≡ self.old.disk }
+        ensures calls { D.moment self.new.disk ≤ D.moment self.old.disk + (if prepares self.old command then 6 else 2) }
         ensures closed { (call : DiskCall) → (result ≡ Err (Refusal.Closed call)) ↔ (self.old.closed ≡ Some call) }
         ensures cause { HasCause result (D.faults self.old.disk) (D.faults self.new.disk) }
         ensures later { (D.faults self.old.disk).0 ≤ (D.faults self.new.disk).0 }
@@ -186,7 +219,15 @@ impl<D: Disk, C: Chronicle> Engine<D, C> {
             Err(_) => return Err(Refusal::NoMemory),
         };
         let end = self.tail.end + self.tail.buffer.bytes().len() as u64;
-        if let Some(refusal) = refusal_of(&self.config, &self.table, end, &command, &rec) {
+        let moves = passes(self.config.file_size, end, &rec);
+        if let Some(refusal) = refusal_of(
+            &self.config,
+            &self.table,
+            &self.pool,
+            moves,
+            &command,
+            &rec,
+        ) {
             self.chronicle.step(Step {
                 seat,
                 number,
@@ -199,13 +240,17 @@ impl<D: Disk, C: Chronicle> Engine<D, C> {
         if let Err(fault) = ready(
             &mut self.disk,
             &mut self.chronicle,
+            &mut self.pool,
             &mut self.tail,
+            moves,
             &command,
             &rec,
         ) {
             return Err(close_after(&mut self.closed, fault));
         }
-        let given = self.table.apply(&command, FILE);
+        let file = self.tail.file.id;
+        let rec = numbered(&self.table, &command, file, rec);
+        let given = self.table.apply(&command, file);
         let (reply, placed) = put_record(&mut self.tail, self.clock, given, rec);
         self.chronicle.step(Step {
             seat,
@@ -280,7 +325,7 @@ impl<D: Disk, C: Chronicle> Engine<D, C> {
         ensures closed { (call : DiskCall) → (result.2 ≡ Err (Refusal.Closed call)) ↔ (self.closed ≡ Some call) }
         ensures cause { HasCause result.2 (D.faults self.disk) (D.faults result.0) }
         ensures later { (D.faults self.disk).0 ≤ (D.faults result.0).0 }
-        ensures content { OnOk result.2 (IfSome (C.lists result.1) (λ l. Told (D.past result.0) (IsJournalFile data_name self.config.user_version self.config.file_size (history_of l.steps)))) }
+        ensures content { OnOk result.2 (IfSome (C.lists result.1) (λ l. Told (D.past result.0) (IsJournal self.config.user_version self.file self.highest (history_of l.steps)))) }
         ensures chronicle { IfSome (C.lists result.1) (IsChronicle (D.past result.0) (D.moment result.0) self.config self.appended (durable_after result.2 self.durable)) }
     {
         let outcome = self.flush();
@@ -290,6 +335,7 @@ impl<D: Disk, C: Chronicle> Engine<D, C> {
             chronicle,
             config: _,
             table: _,
+            pool: _,
             tail: _,
             clock: _,
             closed: _,

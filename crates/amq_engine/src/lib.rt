@@ -2,19 +2,18 @@
 //!
 //! `chronicle` has the trait through which an engine tells what it did, and the chronicles `Kept` and
 //! `Unkept`. `engine` has the engine itself: opening, commands, flushing, ticking, closing. Below it
-//! stand `commands`, the records of commands and what refuses them; `tail`, the end of the
-//! file in use with the buffer behind it; `opening` and `prepare`, which make a file that is durable
-//! before it has its name; `put`, which puts bytes behind the last and syncs them; `header`, the 16
-//! bytes at a file's head; and `log`, a list with room made ahead.
+//! stand `commands`, the records of commands and what refuses them; `moving`, which goes on to further
+//! files; `tail`, the end of the file in use with the buffer behind it; `opening`, which begins the
+//! first file; `put`, which puts bytes behind the last and syncs them; and `log`, a list with room made
+//! ahead.
 #![tactic(auto)]
 
 mod chronicle;
 mod commands;
 mod engine;
-mod header;
 mod log;
+mod moving;
 mod opening;
-mod prepare;
 mod put;
 mod tail;
 

@@ -1,27 +1,24 @@
 //! Beginning a journal in an empty directory.
-ghost use Rattle.std.specs.Prelude.{◌≡◌, ◌⊎◌, ◌≤◌, [], IfSome, IfOk, IfErr, OnOk, OnErr};
+ghost use Rattle.std.specs.Prelude.{◌≡◌, ◌⊎◌, ◌≤◌, [], None, IfSome, IfOk, IfErr, OnOk, OnErr};
 ghost use Rattle.amq_model.specs.Configs.{IsConfig};
 ghost use Rattle.amq_model.specs.Calls.{counted};
 ghost use Rattle.amq_model.specs.Leaves.{Told};
-ghost use Rattle.amq_engine.specs.OneFile.{IsEmpty};
+ghost use Rattle.amq_buffer.specs.Buffered.{Buffered};
+ghost use Rattle.amq_tx.specs.State.{TxState};
+ghost use Rattle.amq_tx.specs.Follows.{Follows};
+ghost use Rattle.amq_pool.specs.Pools.{numbered_file};
+ghost use Rattle.amq_engine.specs.Directory.{IsEmpty};
 ghost use Rattle.amq_engine.specs.Receipts.{IsCrashSafe};
-ghost use Rattle.amq_engine.specs.Engine.{IsBegun, IsBlank, IsUnopened, AreBegun, HasCome, HasOpenCause, open_fault};
+ghost use Rattle.amq_engine.specs.Engine.{IsValid, IsBlank, IsUnopened, AreBegun, HasCome, HasOpenCause, open_fault};
 
 use crate::chronicle::Chronicle;
-use crate::header::header;
-use crate::prepare::prepare;
 use amq_io::{Disk, DiskFault, faults};
 use amq_model::{Config, Items, OpenFault};
+use amq_pool::{Pool, PoolFault, PoolFile};
 use std::alloc::Global;
 
-/// The journal's one file, and the name under which it is prepared.
-pub const DATA_FILE: &str = "activemq-data-1.amq";
-
-const TEMPORARY_FILE: &str = "activemq-data-1.amq.tmp";
-
-const FILE_ID: u64 = 1;
-
-fn fault_of(fault: DiskFault) -> OpenFault
+/// A fault of the disk, as the opening's.
+pub fn fault_of(fault: DiskFault) -> OpenFault
     ensures { result ≡ open_fault fault }
 {
     match fault {
@@ -30,16 +27,21 @@ fn fault_of(fault: DiskFault) -> OpenFault
     }
 }
 
-/// Lists the directory, notes an empty base and the receipt of nothing, and makes the first file.
+/// Lists the directory, notes an empty base and the receipt of nothing, and begins the first file.
+///
+/// The answer is the pool, which has no file yet, and the file in use.
 pub fn begin<D: Disk, C: Chronicle>(
     alloc: Global,
     disk: &mut D,
     chronicle: &mut C,
     config: &Config,
-) -> Result<(), OpenFault>
+) -> Result<(Pool, PoolFile), OpenFault>
     requires config { IsConfig config.now }
     requires blank { IfSome (C.lists chronicle.old) IsBlank }
-    ensures begun { OnOk result (IsBegun (D.past disk.new) (D.moment disk.new) (C.lists chronicle.new) (C.receipt_room chronicle.new) config.now) }
+    ensures valid { IfOk result (λ r. (table : TxState) (buffer : Buffered) → Follows table [] [] → buffer ≡ record { bytes = []; capacity = config.now.buffer_size; timeout = config.now.buffer_timeout; since = None }
+        → IsValid (D.past disk.new) (D.moment disk.new) (C.lists chronicle.new) (C.receipt_room chronicle.new) config.now table r.0 (record { file = r.1; buffer = buffer; end = 16; appended = 0; durable = 0 })) }
+    ensures pool { IfOk result (λ r. r.0 ≡ record { config = config.now; highest = 1; prepared = [] }) }
+    ensures file { IfOk result (λ r. r.1 ≡ numbered_file 1) }
     ensures lists { OnOk result (IfSome (C.lists chronicle.new) (AreBegun (counted (D.moment disk.old)))) }
     ensures empty { OnOk result (Told (D.past disk.old) IsEmpty) }
     ensures unopened { OnErr result (IfSome (C.lists chronicle.new) IsUnopened) }
@@ -47,7 +49,7 @@ pub fn begin<D: Disk, C: Chronicle>(
     ensures later { (D.faults disk.old).0 ≤ (D.faults disk.new).0 }
     ensures crash_safe { IfSome (C.lists chronicle.new) (IsCrashSafe (D.past disk.new) (D.moment disk.new) config.now.user_version) }
     ensures failed_empty { IfSome (C.lists chronicle.new) (λ l. (l.receipts ≡ []) ⊎ Told (D.past disk.old) IsEmpty) }
-    ensures come { IfSome (C.lists chronicle.new) (HasCome config.now (D.moment disk.old) (D.past disk.old) (D.past disk.new)) }
+    ensures come { IfSome (C.lists chronicle.new) (HasCome (D.moment disk.old) (D.past disk.old) (D.past disk.new)) }
 {
     let infos = match faults::list(disk) {
         Ok(infos) => infos,
@@ -61,9 +63,15 @@ pub fn begin<D: Disk, C: Chronicle>(
     }
     let moment = disk.moment();
     chronicle.receipt(0, moment);
-    let header = header(config.user_version, FILE_ID);
-    match prepare(disk, TEMPORARY_FILE, DATA_FILE, config.file_size, &header) {
-        Ok(()) => Ok(()),
-        Err(fault) => Err(fault_of(fault)),
+    let mut pool = Pool::new(alloc, 0, config);
+    match pool.prepare_step(disk) {
+        Ok(()) => {}
+        Err(PoolFault::Disk { call }) => return Err(OpenFault::Disk { call }),
+        Err(PoolFault::NoMemory) => return Err(OpenFault::NoMemory),
+        Err(PoolFault::FileIdsSpent { .. }) => unreachable!(),
+    }
+    match pool.take() {
+        Some(file) => Ok((pool, file)),
+        None => unreachable!(),
     }
 }

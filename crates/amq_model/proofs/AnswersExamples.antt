@@ -1,5 +1,5 @@
 -- What the journal of one thread answers, and which histories are legal.
-use Rattle.std.proofs.Common.{◌≡◌, ℕ, zero, suc, ◌<◌, inl, ⊎_elim, List, [], ◌∷◌, Option, Some, None, All, refl, arith}
+use Rattle.std.proofs.Common.{◌≡◌, ℕ, zero, suc, ◌<◌, ◌≤◌, true, false, inl, inr, ⊎_elim, List, [], ◌∷◌, ◌++◌, Option, Some, None, All, refl, arith}
 use Rattle.amq_model.specs.declared.record.Record.{Record}
 use Rattle.amq_model.specs.declared.record.Record.TheVariants as r
 use Rattle.amq_model.specs.declared.record.Placed.{Placed}
@@ -10,9 +10,9 @@ use Rattle.amq_model.specs.declared.config.Config.{Config}
 use Rattle.amq_model.specs.declared.history.Answer.{Answer}
 use Rattle.amq_model.specs.declared.history.Answer.TheVariants.{Done, Refused}
 use Rattle.amq_model.specs.declared.history.Step.{Step}
-use Rattle.amq_model.specs.declared.refusal.Refusal.TheVariants.{TooLarge, NoTx, TxPrepared, Held, AlreadyLive, NoRecord, TxNumbersSpent, FileFull}
+use Rattle.amq_model.specs.declared.refusal.Refusal.TheVariants.{TooLarge, NoTx, TxPrepared, Held, AlreadyLive, NoRecord, TxNumbersSpent, FileIdsSpent}
 use Rattle.amq_model.specs.Answers.{answer, history_of}
-use Rattle.amq_model.specs.Legal.{or_file_full, rolled_back, AreLegal, AreLegalOfRefused}
+use Rattle.amq_model.specs.Legal.{needs_file, IsAnswered, rolled_back, AreLegal, AreLegalOfRefused}
 
 abbrev config : ℕ → ℕ → Config
 config file_size buffer_size = record { file_size = file_size; min_files = 2; pool_files = None; compact_min_files = 10; compact_percentage = 30; buffer_size = buffer_size; buffer_timeout = 3; user_version = 0 }
@@ -156,29 +156,51 @@ longer_than_a_file = refl
 pub too_large_first : answer [] [] (config 10485760 64) (c.AddTx 9 3 7 body_of_41) ≡ Refused (TooLarge 72 64)
 too_large_first = refl
 
--- ---- the one file is full
+-- ---- a further file
 
 abbrev small : Config
 small = config 64 501760
 
-abbrev answered : List Step → Command → Answer
-answered steps command = or_file_full (history_of steps) small command (answer [] steps small command)
+-- behind the first add the file has 23 bytes left
+pub longer_than_the_rest : needs_file (history_of one_live) small (c.Add 2 7 hi) ≡ true
+longer_than_the_rest = refl
 
-pub the_file_has_room : answered [] (c.Add 1 7 hi) ≡ Done (Appended 0)
-the_file_has_room = refl
+pub as_long_as_the_rest : needs_file (history_of one_live) small (c.Add 2 7 []) ≡ false
+as_long_as_the_rest = refl
 
-pub the_file_is_full : answered one_live (c.Add 2 7 hi) ≡ Refused (FileFull 25 23)
-the_file_is_full = refl
+pub no_record_needs_no_file : needs_file (history_of one_live) small c.Begin ≡ false
+no_record_needs_no_file = refl
 
--- as long as the rest
-pub the_file_is_filled : answered one_live (c.Add 2 7 []) ≡ Done (Appended 1)
-the_file_is_filled = refl
+-- the first append stands behind 16 bytes, and the longest record has room there
+pub the_first_append : needs_file [] (config 80 501760) (c.Add 2 7 body_of_41) ≡ false
+the_first_append = refl
 
-pub refused_before_the_file_is_asked : answered one_live (c.Add 1 7 hi) ≡ Refused (AlreadyLive 1)
-refused_before_the_file_is_asked = refl
+abbrev spent : Answer
+spent = Refused (FileIdsSpent 2147483647)
 
-pub no_record_needs_no_room : answered one_live c.Begin ≡ Done (Begun 1)
-no_record_needs_no_room = refl
+pub no_number_is_left : IsAnswered [] one_live small (c.Add 2 7 hi) spent
+no_number_is_left = inr (refl, refl, tt)
+
+-- where a number is left, the journal moves on
+pub it_moves_on : IsAnswered [] one_live small (c.Add 2 7 hi) (Done (Appended 1))
+it_moves_on = inl refl
+
+pub the_record_fits : IsAnswered [] one_live small (c.Add 2 7 []) spent → ⊥
+the_record_fits h = ⊎_elim (λ e. let f : spent ≡ Done (Appended 1) = e in cc) (λ e. let f : false ≡ true = e.1 in cc) h
+
+pub nothing_is_appended : IsAnswered [] one_live small c.Begin spent → ⊥
+nothing_is_appended h = ⊎_elim (λ e. let f : spent ≡ Done (Begun 1) = e in cc) (λ e. let f : false ≡ true = e.1 in cc) h
+
+-- the refusals of the journal of one thread come before it
+pub refused_before_a_file_is_needed : IsAnswered [] one_live small (c.Add 1 7 hi) (Refused (AlreadyLive 1))
+refused_before_a_file_is_needed = inl refl
+
+pub refused_without_a_file : IsAnswered [] one_live small (c.Add 1 7 hi) spent → ⊥
+refused_without_a_file h = ⊎_elim (λ e. let f : spent ≡ Refused (AlreadyLive 1) = e in cc) (λ e. e.2) h
+
+pub another_highest : IsAnswered [] one_live small (c.Add 2 7 hi) (Refused (FileIdsSpent 2147483646)) → ⊥
+another_highest h =
+    ⊎_elim (λ e. let f : Refused (FileIdsSpent 2147483646) ≡ Done (Appended 1) = e in cc) (λ e. let f : ◌≡◌ {A = ℕ} 2147483646 2147483647 = cc in omega arith) h
 
 -- ---- the opening's ROLLBACKs
 
@@ -187,27 +209,64 @@ what_is_rolled_back = refl
 
 -- ---- legal histories
 
--- an add, and one more for which the file has no room
-abbrev full : List Step
-full = step 1 (c.Add 1 7 hi) (Done (Appended 0)) (Some (at 16 (r.Add 1 7 hi))) ∷ step 2 (c.Add 2 7 hi) (Refused (FileFull 25 23)) None ∷ []
+-- an add, and another command behind it
+abbrev behind_one : Command → Answer → Option Placed → List Step
+behind_one command reply placed = one_live ++ step 2 command reply placed ∷ []
+
+-- one more add, for which the file has no room
+abbrev more : Answer → Option Placed → List Step
+more reply placed = behind_one (c.Add 2 7 hi) reply placed
+
+-- its record, and where it stands
+abbrev more_at : ℕ → ℕ → Option Placed
+more_at file place = Some (record { file = file; place = place; compact = 0; rec = r.Add 2 7 hi })
 
 of_one_seat : (a b : Step) → a.seat ≡ 1 → b.seat ≡ 1 → All (λ s. 0 < s.seat) (a ∷ b ∷ [])
 of_one_seat a b h g zero d i = omega arith
 of_one_seat a b h g (suc zero) d i = omega arith
 of_one_seat a b h g (suc (suc k)) d i = omega arith
 
-pub a_full_file_is_legal : AreLegal [] full small
-a_full_file_is_legal = record {
+pub a_further_file_is_legal : AreLegal [] (more (Done (Appended 1)) (more_at 2 16)) small
+a_further_file_is_legal = record {
   each = (
-    record { answered = refl; placed = (refl, refl, omega arith, (refl, λ k d h. omega arith)) },
-    (record { answered = refl; placed = refl }, tt),
+    record { answered = inl refl; placed = (refl, refl, omega arith, (refl, λ k d h. omega arith)) },
+    (record { answered = inl refl; placed = (refl, refl, omega arith, inr (omega arith, refl)) }, tt),
   );
   opening = of_one_seat _ _ refl refl;
 }
 
--- the second add was accepted
-pub one_too_many : AreLegal [] (step 1 (c.Add 1 7 hi) (Done (Appended 0)) (Some (at 16 (r.Add 1 7 hi))) ∷ step 2 (c.Add 2 7 hi) (Done (Appended 1)) (Some (at 41 (r.Add 2 7 hi))) ∷ []) small → ⊥
-one_too_many h = let e : Done (Appended 1) ≡ Refused (FileFull 25 23) = h.each.1.0.answered in cc
+pub spent_file_ids_are_legal : AreLegal [] (more spent None) small
+spent_file_ids_are_legal = record {
+  each = (
+    record { answered = inl refl; placed = (refl, refl, omega arith, (refl, λ k d h. omega arith)) },
+    (record { answered = inr (refl, refl, tt); placed = refl }, tt),
+  );
+  opening = of_one_seat _ _ refl refl;
+}
+
+-- a record behind the end of its file
+pub one_too_many : AreLegal [] (more (Done (Appended 1)) (more_at 1 41)) small → ⊥
+one_too_many h = let le : 66 ≤ 64 = h.each.1.0.placed.2 in omega arith
+
+-- a record in a further file, but not first in it
+pub not_first_in_its_file : AreLegal [] (more (Done (Appended 1)) (more_at 2 17)) usual → ⊥
+not_first_in_its_file h = ⊎_elim (λ e. omega arith) (λ e. omega arith) h.each.1.0.placed.3
+
+-- a refused command whose record was appended
+pub a_record_of_a_refused_add : AreLegal [] (more spent (more_at 2 16)) small → ⊥
+a_record_of_a_refused_add h = let e : more_at 2 16 ≡ None = h.each.1.0.placed in cc
+
+-- spent, and the record fits
+pub spent_too_soon : AreLegal [] (more spent None) usual → ⊥
+spent_too_soon h = ⊎_elim (λ e. let f : spent ≡ Done (Appended 1) = e in cc) (λ e. let f : false ≡ true = e.1 in cc) h.each.1.0.answered
+
+-- spent, and the journal of one thread refuses the command
+pub spent_before_the_id_is_live : AreLegal [] (behind_one (c.Add 1 7 hi) spent None) small → ⊥
+spent_before_the_id_is_live h = refused_without_a_file h.each.1.0.answered
+
+-- spent at another number
+pub spent_at_another_number : AreLegal [] (more (Refused (FileIdsSpent 2147483646)) None) small → ⊥
+spent_at_another_number h = another_highest h.each.1.0.answered
 
 -- a record that leaves a gap behind the last append
 pub a_gap : AreLegal [] (step 1 (c.Add 1 7 hi) (Done (Appended 0)) (Some (at 16 (r.Add 1 7 hi))) ∷ step 2 (c.Add 2 7 []) (Done (Appended 1)) (Some (at 42 (r.Add 2 7 []))) ∷ []) usual → ⊥
@@ -231,10 +290,10 @@ committed number = step 1 c.Begin (Done (Begun 1)) None
 pub a_sound_commit_is_legal : AreLegal [] (committed 1) usual
 a_sound_commit_is_legal = record {
   each = (
-    record { answered = refl; placed = refl },
+    record { answered = inl refl; placed = refl },
     (
-      record { answered = refl; placed = (refl, refl, omega arith, (refl, λ k d h. omega arith)) },
-      (record { answered = refl; placed = (refl, refl, omega arith, inl (refl, refl)) }, tt),
+      record { answered = inl refl; placed = (refl, refl, omega arith, (refl, λ k d h. omega arith)) },
+      (record { answered = inl refl; placed = (refl, refl, omega arith, inl (refl, refl)) }, tt),
     ),
   );
   opening = of_one_seat_3 _ _ _ refl refl refl;
@@ -260,7 +319,7 @@ opened = record { seat = 0; number = 1; command = c.Rollback 4; answer = Done (A
 
 pub a_rollback_is_legal : AreLegal left_open opened usual
 a_rollback_is_legal = record {
-  each = (record { answered = refl; placed = (refl, refl, omega arith, (refl, below)) }, tt);
+  each = (record { answered = inl refl; placed = (refl, refl, omega arith, (refl, below)) }, tt);
   opening = (record { seat = refl; number = refl; command = refl }, λ k d h. omega arith);
 } where
   below : All (λ q. q.file < 2) left_open
@@ -276,4 +335,4 @@ an_opening_that_was_refused = record { each = tt; opening = tt }
 
 -- no other step stands before it
 pub a_step_before_it : AreLegalOfRefused left_open (step 1 c.Flush (Done (Durable 0)) None ∷ []) usual → ⊥
-a_step_before_it h = let e : 1 ≡ 0 = h.opening.0.seat in omega arith
+a_step_before_it h = let e : ◌≡◌ {A = ℕ} 1 0 = h.opening.0.seat in omega arith

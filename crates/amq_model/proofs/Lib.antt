@@ -1,5 +1,6 @@
 pub mod Alone
 pub mod AnswersExamples
+pub mod AscendingLaws
 pub mod Chain
 pub mod ControlFiles
 pub mod Crashes
@@ -15,10 +16,12 @@ pub mod KeptExamples
 pub mod Literals
 pub mod Lookups
 pub mod Moments
+pub mod OpenExamples
 pub mod Plain
 pub mod RecordLinesExamples
 pub mod Recovering
 pub mod Scans
 pub mod Settling
 pub mod TextsExamples
+pub mod TouchedIds
 pub mod Vectors

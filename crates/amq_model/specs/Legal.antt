@@ -1,5 +1,5 @@
 -- The histories that a journal of one thread can have.
-use Rattle.std.specs.Prelude.{◌≡◌, ℕ, ◌+◌, ◌-◌, ◌<◌, ◌≤◌, ◌⊎◌, not, ◌&&◌, nat_lt, if◌then◌else◌, List, [], ◌∷◌, ◌++◌, filter, Option, Some, None, ◌==◌, All}
+use Rattle.std.specs.Prelude.{◌≡◌, ℕ, ◌+◌, ◌-◌, ◌^◌, ◌<◌, ◌≤◌, ◌⊎◌, Bool, false, IsTrue, not, ◌&&◌, nat_lt, List, [], ◌∷◌, ◌++◌, filter, Option, Some, None, ◌==◌, All}
 use Rattle.std.specs.List.{filter_map, list_any}
 use Rattle.amq_model.specs.declared.record.Placed.{Placed}
 use Rattle.amq_model.specs.declared.command.Command.{Command}
@@ -8,8 +8,7 @@ use Rattle.amq_model.specs.declared.config.Config.{Config}
 use Rattle.amq_model.specs.declared.history.Answer.{Answer}
 use Rattle.amq_model.specs.declared.history.Answer.TheVariants.{Done, Refused}
 use Rattle.amq_model.specs.declared.history.Step.{Step}
-use Rattle.amq_model.specs.declared.refusal.Refusal.{Refusal}
-use Rattle.amq_model.specs.declared.refusal.Refusal.TheVariants.{FileFull}
+use Rattle.amq_model.specs.declared.refusal.Refusal.TheVariants.{FileIdsSpent}
 use Rattle.amq_model.specs.RecordAt.{len_of}
 use Rattle.amq_model.specs.Effect.{counted, prepared, ascending}
 use Rattle.amq_model.specs.Answers.{tx_of, record_of, history_of, number_of, is_left_open, answer}
@@ -35,30 +34,33 @@ Appends base steps config command (Some p) =
 abbrev pub Placing : List Placed → List Step → Config → Step → Type 0
 Placing base steps config s = elim s.answer [ Done reply ↦ Appends base steps config s.command s.placed | Refused refusal ↦ s.placed ≡ None ]
 
--- ---- a file that is full
+-- ---- what is answered
 
 -- where the last append ends, 16 before the first one
 abbrev pub end_of : List Placed → ℕ
 end_of [] = 16
 end_of (q ∷ qs) = elim qs [ [] ↦ q.place + len_of q.rec | s ∷ ss ↦ end_of qs ]
 
--- The refusal of an accepted command whose record is longer than the rest of the one file.
-abbrev pub file_full : List Placed → Config → Command → Option Refusal
-file_full history config command = elim (record_of command 0) [
-  | None ↦ None
-  | Some rec ↦ (if nat_lt (config.file_size - end_of history) (len_of rec) then Some (FileFull (len_of rec) (config.file_size - end_of history)) else None)
-]
+-- the command's record, put right behind the last append, would end behind the file size
+abbrev pub needs_file : List Placed → Config → Command → Bool
+needs_file history config command = elim (record_of command 0) [ None ↦ false | Some rec ↦ nat_lt config.file_size (end_of history + len_of rec) ]
 
--- until the journal moves to further files, an accepted command is refused where its record doesn't fit the one file
-abbrev pub or_file_full : List Placed → Config → Command → Answer → Answer
-or_file_full history config command (Refused refusal) = Refused refusal
-or_file_full history config command (Done reply) = elim (file_full history config command) [ None ↦ Done reply | Some refusal ↦ Refused refusal ]
+-- the command was accepted
+abbrev pub IsDone : Answer → Type 0
+IsDone (Done reply) = Unit {0}
+IsDone (Refused refusal) = ⊥
+
+-- The answer of the journal of one thread; or, where that accepts the command and its record needs a further file, that the numbers of files are spent.
+abbrev pub IsAnswered : List Placed → List Step → Config → Command → Answer → Type 0
+IsAnswered base steps config command a =
+    (a ≡ answer base steps config command)
+    ⊎ ((a ≡ Refused (FileIdsSpent (2 ^ 31 - 1))) × IsTrue (needs_file (history_of steps) config command) × IsDone (answer base steps config command))
 
 -- ---- legal histories
 
--- the step's answer is that of the journal of one thread behind the steps before it, and its record stands where it may
+-- the step is answered as it may be behind the steps before it, and its record stands where it may
 pub record IsLegalStep (base : List Placed) (steps : List Step) (config : Config) (s : Step) : Type 0 where
-  pub answered : s.answer ≡ or_file_full (history_of steps) config s.command (answer base steps config s.command)
+  pub answered : IsAnswered base steps config s.command s.answer
   pub placed : Placing base steps config s
 
 -- each step behind those before it

@@ -12,6 +12,8 @@ pub mod Crash
 pub mod Leaves
 pub mod Kept
 pub mod Answers
+pub mod Open
+pub mod Ids
 pub mod Legal
 pub mod Plain
 pub mod Configs

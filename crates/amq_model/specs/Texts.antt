@@ -11,7 +11,7 @@ use Rattle.amq_model.specs.declared.refusal.DiskCall.TheVariants as d
 use Rattle.amq_model.specs.declared.refusal.Phase.{Phase}
 use Rattle.amq_model.specs.declared.refusal.Phase.TheVariants as p
 use Rattle.amq_model.specs.declared.refusal.Refusal.{Refusal}
-use Rattle.amq_model.specs.declared.refusal.Refusal.TheVariants.{Closed, TooLarge, NoTx, TxPrepared, Held, AlreadyLive, NoRecord, TxNumbersSpent, Compacting, FileIdsSpent, Disk, NoMemory, FileFull}
+use Rattle.amq_model.specs.declared.refusal.Refusal.TheVariants.{Closed, TooLarge, NoTx, TxPrepared, Held, AlreadyLive, NoRecord, TxNumbersSpent, Compacting, FileIdsSpent, Disk, NoMemory}
 use Rattle.amq_model.specs.declared.state.Entry.{Entry}
 use Rattle.amq_model.specs.declared.state.EntryKind.{EntryKind}
 use Rattle.amq_model.specs.declared.state.EntryKind.TheVariants as k
@@ -78,7 +78,6 @@ refusal_words (Compacting phase) = codes "Compacting" ∷ phase_name phase ∷ [
 refusal_words (FileIdsSpent highest) = codes "FileIdsSpent" ∷ decimal highest ∷ []
 refusal_words (Disk call) = codes "Disk" ∷ disk_call_name call ∷ []
 refusal_words NoMemory = codes "NoMemory" ∷ []
-refusal_words (FileFull len left) = codes "FileFull" ∷ decimal len ∷ decimal left ∷ []
 
 -- a refusal's line; want of memory has none
 abbrev pub refusal_line : Refusal → List ℕ

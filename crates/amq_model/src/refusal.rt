@@ -63,8 +63,4 @@ pub enum Refusal {
     /// There was no memory. The call can be made again.
     #[error("no memory")]
     NoMemory,
-    /// The record has `len` bytes, and the rest of the one file has `left`. It goes once the journal
-    /// moves to further files.
-    #[error("record of {len} bytes, and {left} left in the file")]
-    FileFull { len: u64, left: u64 },
 }

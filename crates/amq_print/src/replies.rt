@@ -68,9 +68,6 @@ fn push_refusal(out: &mut Vec<u8>, refusal: Refusal) -> Result<(), NoMemory>
             push_line(out, &[refused, Text("Disk"), Text(disk_call_text(call))])
         }
         Refusal::NoMemory => Ok(()),
-        Refusal::FileFull { len, left } => {
-            push_line(out, &[refused, Text("FileFull"), Number(len), Number(left)])
-        }
     }
 }
 

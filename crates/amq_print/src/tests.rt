@@ -58,7 +58,6 @@ fn refusals(rt: HostRuntime) -> Result<(), Fail> {
             highest: 2147483647,
         },
         Refusal::NoMemory,
-        Refusal::FileFull { len: 25, left: 23 },
         Refusal::Disk {
             call: DiskCall::Sync,
         },
@@ -70,7 +69,7 @@ fn refusals(rt: HostRuntime) -> Result<(), Fail> {
     let first =
         "refused Closed WriteAt\nrefused TooLarge 65 64\nrefused NoTx 1\nrefused TxPrepared 1\nrefused AlreadyLive 10\n";
     let second =
-        "refused TxNumbersSpent 9223372036854775807\nrefused Compacting Reading\nrefused FileIdsSpent 2147483647\nrefused FileFull 25 23\nrefused Disk Sync\n";
+        "refused TxNumbersSpent 9223372036854775807\nrefused Compacting Reading\nrefused FileIdsSpent 2147483647\nrefused Disk Sync\n";
     let mut expected = first.as_bytes().to_vec(rt.alloc())?;
     expected.extend_from_slice(second.as_bytes())?;
     assert_eq!(rt; out.as_slice(), expected.as_slice());

@@ -29,13 +29,13 @@ bytes_by_test (b ∷ bs) e zero = ltb-true b 256 (first_true (ltb b 256) (are_by
 bytes_by_test (b ∷ bs) e (suc i) = bytes_by_test bs (second_true (ltb b 256) (are_bytes bs) e) i
 
 -- what reading from place to place finds is the scan
-scan_by_reading : (bytes : List ℕ) (fid : ℕ) (spots : List Spot) → are_bytes bytes ≡ true → ltb fid (2 ^ 32) ≡ true → scan_from (length bytes) bytes fid 2 16 ≡ spots → IsScan bytes fid 2 spots
+pub scan_by_reading : (bytes : List ℕ) (fid : ℕ) (spots : List Spot) → are_bytes bytes ≡ true → ltb fid (2 ^ 32) ≡ true → scan_from (length bytes) bytes fid 2 16 ≡ spots → IsScan bytes fid 2 spots
 scan_by_reading bytes fid spots are small read = subst (IsScan bytes fid 2) read (scan_of-is bytes fid 2 (bytes_by_test bytes are) (ltb-true fid (2 ^ 32) small))
 
 -- ---- bytes and spots
 
 -- version 2, user version 0 and this id
-abbrev header : ℕ → List ℕ
+abbrev pub header : ℕ → List ℕ
 header id = 0 ∷ 0 ∷ 0 ∷ 2 ∷ 0 ∷ 0 ∷ 0 ∷ 0 ∷ 0 ∷ 0 ∷ 0 ∷ 0 ∷ 0 ∷ 0 ∷ 0 ∷ id ∷ []
 
 -- an ADD of id 1, type 7 and body hi in a file of id 1, with these bytes for the body's length and this check size
@@ -43,11 +43,11 @@ abbrev add_with : List ℕ → ℕ → List ℕ
 add_with len size = 0x0b ∷ 0 ∷ 0 ∷ 0 ∷ 1 ∷ 0 ∷ 0 ∷ 0 ∷ 0 ∷ 0 ∷ 0 ∷ 0 ∷ 0 ∷ 1 ∷ len ++ (7 ∷ 0x68 ∷ 0x69 ∷ 0 ∷ 0 ∷ 0 ∷ size ∷ [])
 
 -- the record
-abbrev add_hi : List ℕ
+abbrev pub add_hi : List ℕ
 add_hi = add_with (0 ∷ 0 ∷ 0 ∷ 2 ∷ []) 0x19
 
 -- an ADD of id 2, type 7 and body yo
-abbrev add_yo : List ℕ
+abbrev pub add_yo : List ℕ
 add_yo = 0x0b ∷ 0 ∷ 0 ∷ 0 ∷ 1 ∷ 0 ∷ 0 ∷ 0 ∷ 0 ∷ 0 ∷ 0 ∷ 0 ∷ 0 ∷ 2 ∷ 0 ∷ 0 ∷ 0 ∷ 2 ∷ 7 ∷ 0x79 ∷ 0x6f ∷ 0 ∷ 0 ∷ 0 ∷ 0x19 ∷ []
 
 -- an ADD_TX of transaction 5, id 3, type 7 and body hi
@@ -58,10 +58,10 @@ add_tx_hi = 0x0d ∷ 0 ∷ 0 ∷ 0 ∷ 1 ∷ 0 ∷ 0 ∷ 0 ∷ 0 ∷ 0 ∷ 0 ∷
 abbrev commit_of : ℕ → List ℕ
 commit_of count = 0x12 ∷ 0 ∷ 0 ∷ 0 ∷ 1 ∷ 0 ∷ 0 ∷ 0 ∷ 0 ∷ 0 ∷ 0 ∷ 0 ∷ 0 ∷ 5 ∷ 0 ∷ 0 ∷ 0 ∷ count ∷ 0 ∷ 0 ∷ 0 ∷ 0x16 ∷ []
 
-abbrev hi_at : ℕ → Spot
+abbrev pub hi_at : ℕ → Spot
 hi_at place = record { place = place; len = 25; compact = 0; rec = Add 1 7 (0x68 ∷ 0x69 ∷ []) }
 
-abbrev yo_at : ℕ → Spot
+abbrev pub yo_at : ℕ → Spot
 yo_at place = record { place = place; len = 25; compact = 0; rec = Add 2 7 (0x79 ∷ 0x6f ∷ []) }
 
 abbrev tx_hi_at : ℕ → Spot

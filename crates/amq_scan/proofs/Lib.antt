@@ -4,3 +4,8 @@ pub mod Images
 pub mod Written
 pub mod Lengths
 pub mod Examples
+pub mod Fronts
+pub mod Sorted
+pub mod Entries
+pub mod Directories
+pub mod DirectoryExamples

@@ -62,7 +62,7 @@ spots_more version place (x ∷ xs) new = ap (λ (ss : List Spot). record { plac
 
 -- ---- a front that is kept whole
 
-front_kept : (from : ℕ) (left front back : List Spot) → Ascends from (front ++ back) → IsPart left (front ++ back) → ((s : Spot) → Has front s → Has left s) → (rest : List Spot) × (left ≡ front ++ rest) × IsPart rest back
+pub front_kept : (from : ℕ) (left front back : List Spot) → Ascends from (front ++ back) → IsPart left (front ++ back) → ((s : Spot) → Has front s → Has left s) → (rest : List Spot) × (left ≡ front ++ rest) × IsPart rest back
 front_kept from left [] back a p keeps = (left, refl, p)
 front_kept from [] (x ∷ front) back a p keeps = absurd (keeps x (inl refl))
 front_kept from (y ∷ left) (x ∷ front) back a (inl p) keeps =

@@ -2,9 +2,11 @@
 ghost use Rattle.std.specs.Prelude.{◌≡◌, ℕ, ◌<◌, ◌^◌, ◌++◌, List, length, All, Contains};
 ghost use Rattle.amq_model.specs.RecordAt.{Spot};
 ghost use Rattle.amq_model.specs.Scan.{IsScan};
-ghost use Rattle.amq_model.specs.Files.{Range, IsTorn};
+ghost use Rattle.amq_model.specs.Files.{Range, Files, Image, IsTorn, IsReading, IsImage};
+ghost use Rattle.amq_model.specs.Crash.{NoFalseRecord};
 ghost use Rattle.amq_model.specs.Kept.{IsPart};
 ghost use Rattle.amq_scan.specs.Images.{IsLeft, IsOutside};
+ghost use Rattle.amq_scan.specs.Segments.{Segment, IsDirectory, IsLeftOf};
 ghost use Rattle.amq_scan.specs.Written.{Item, IsItem, IsFill, IsBehind, file_bytes, spots_from, end_from};
 
 /// A file has one scan.
@@ -39,4 +41,11 @@ pub fn torn_behind()
         length header ≡ 16 → All (IsItem version) (old ++ new) → IsFill fill → IsBehind (end_from version 16 old) pending →
         IsTorn pending (file_bytes version fid header (old ++ new) fill) image → IsScan image fid version left → All (Contains (spots_from version 16 (old ++ new))) left →
         (rest : List Spot) × (left ≡ spots_from version 16 old ++ rest) × IsPart rest (spots_from version (end_from version 16 old) new) }
+{}
+
+/// What a crash leaves of a directory of data files, where each record that is found in it was there before: no
+/// fault, no control file, and of the records, in the order of the files' ids, the first `sure` ones, of which
+/// nothing was pending, and behind them some of the others, in their order.
+pub fn a_crash_leaves_a_part_of_a_directory()
+    ensures { (wanted sure : ℕ) (gs : List Segment) (s : Files) (reading image : Image) → IsReading s reading → IsImage s image → NoFalseRecord reading image → IsDirectory wanted sure gs s → IsLeftOf wanted sure gs image }
 {}

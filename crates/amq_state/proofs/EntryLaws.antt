@@ -12,7 +12,7 @@ use Rattle.std.proofs.lemmas.Cmp.{nat_cmp_total}
 use Rattle.std.proofs.lemmas.Map.Entries.{lookup_from_place}
 use Rattle.std.proofs.lemmas.Map.Keys.{IsDistinct-from_sorted}
 use Rattle.std.proofs.lemmas.Map.Made.{is_some-lookup}
-use Rattle.amq_state.proofs.TableLaws.{is_here}
+use Rattle.amq_model.proofs.AscendingLaws.{is_here}
 
 -- two functions that agree at each place
 maps_same : {X Y : Type 0} (g h : X → Y) (xs : List X) → ((i : ℕ) (x : X) → slice_get xs i ≡ Some x → g x ≡ h x) → map g xs ≡ map h xs

@@ -2,10 +2,8 @@ pub mod Backward
 pub mod Lists
 pub mod TurnLaws
 pub mod TableLaws
-pub mod AscendingLaws
 pub mod EntryLaws
 pub mod TouchedLaws
 pub mod HeldLaws
 pub mod OpenLaws
-pub mod OpenExamples
 pub mod FedLaws

@@ -15,7 +15,7 @@ use Rattle.amq_model.specs.Effect.{among, ascending, open_changes, in_effect, ef
 use Rattle.amq_model.proofs.EffectGrows.{effect_grows}
 use Rattle.amq_model.proofs.Grows.{open_changes-snoc}
 use Rattle.amq_model.specs.Answers.{number_of}
-use Rattle.amq_state.specs.Open.{highest_of}
+use Rattle.amq_model.specs.Open.{highest_of}
 use Rattle.amq_state.specs.Backward.{values}
 use Rattle.amq_state.specs.Plain.{numbered, bytes_or_none, opened}
 

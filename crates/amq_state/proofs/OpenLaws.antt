@@ -16,12 +16,12 @@ use Rattle.amq_model.specs.declared.record.Placed.{Placed}
 use Rattle.amq_model.specs.declared.state.OpenTx.{OpenTx}
 use Rattle.amq_model.specs.Effect.{open_changes, prepared, ascending, last_of, doubt_of, in_doubt, ends, entry_of, removal_of}
 use Rattle.amq_model.specs.Answers.{number_of, is_some_of, is_left_open}
+use Rattle.amq_model.specs.Open.{touched_by, open_tx, open_txs}
+use Rattle.amq_model.proofs.AscendingLaws.{any-ascending, ascending-sorted, same_numbers, sides}
 use Rattle.amq_state.specs.declared.turn.Turn.{Turn}
 use Rattle.amq_state.specs.Turns.{TurnState, told, turn_in, last_extra}
-use Rattle.amq_state.specs.Open.{touched_by, open_tx, open_txs}
 use Rattle.amq_state.specs.Parts.{doubt_in, open_in, doubt_at, open_at}
 use Rattle.amq_state.proofs.TurnLaws.{last_of-is, has_extra}
-use Rattle.amq_state.proofs.AscendingLaws.{any-ascending, ascending-sorted, same_numbers, sides}
 use Rattle.amq_state.proofs.EntryLaws.{entries_same, finds_same, found_listed}
 
 -- a table, as what it tells of each transaction of the list

@@ -1,35 +1,24 @@
 -- Tables of open transactions: what a change of one leaves of the others.
 use Rattle.std.proofs.Common.{◌≡◌, ℕ, ◌+◌, Bool, true, false, cond, eqb, List, [], ◌∷◌, ◌++◌, Option, Some, refl, sym, ap, ◌∙◌, arith}
-use Rattle.std.specs.Prelude.{nat_lt}
 use Rattle.std.specs.Option.{unwrap_or}
-use Rattle.std.proofs.Common.{Less, Equal, Greater}
-use Rattle.std.specs.Ordering.{nat_cmp, is_eq}
+use Rattle.std.specs.Ordering.{nat_cmp}
 use Rattle.std.specs.BTreeMap.{BTreeMap, get, is_at}
 use Rattle.std.specs.Cow.{cow_value}
 use Rattle.std.specs.declared.borrow.Cow.{Cow}
 use Rattle.std.proofs.lemmas.Bool.{eqb-true}
 use Rattle.std.proofs.lemmas.List.{map-append}
 use Rattle.std.proofs.lemmas.List.Sums.{sum_by_push}
-use borrow.Author.Tests.{ltb-true}
 use Rattle.amq_model.specs.declared.record.Placed.{Placed}
 use Rattle.amq_model.specs.declared.record.Brief.{Brief}
 use Rattle.amq_model.specs.Records.{brief_of}
 use Rattle.amq_model.specs.Effect.{in_effect}
+use Rattle.amq_model.proofs.AscendingLaws.{is_here}
 use Rattle.amq_model.proofs.EffectGrows.{effect_grows}
 use Rattle.amq_state.specs.declared.turn.Turn.{Turn}
 use Rattle.amq_state.specs.Held.{held}
 use Rattle.amq_state.specs.Turns.{told, count_in, turn_after, added, turn_in}
 use Rattle.amq_state.specs.Follows.{Follows}
 use Rattle.amq_state.proofs.TurnLaws.{turns_grow, effect_is}
-
--- a query of a number finds that number alone
-pub is_here : (k q : ℕ) → is_at (nat_cmp k) q ≡ eqb k q
-is_here k q = by (nat_lt k q) (eqb k q) refl refl where
-  by : (less same : Bool) → nat_lt k q ≡ less → eqb k q ≡ same → is_eq (cond less Less (cond same Equal Greater)) ≡ same
-  by true true l s = absurd (omega (arith, ltb-true k q l, eqb-true k q s))
-  by true false l s = refl
-  by false true l s = refl
-  by false false l s = refl
 
 -- a record more is counted in its own file
 pub counts_grow : (old new : Option ℕ) (cs : List (Cow Placed)) (c : Cow Placed) (file n q : ℕ) → file ≡ (cow_value c).file → new ≡ cond (is_at (nat_cmp file) q) (Some (n + 1)) old

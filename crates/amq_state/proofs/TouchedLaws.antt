@@ -1,6 +1,6 @@
 -- What the last record of each id does to it.
-use Rattle.std.proofs.Common.{◌≡◌, ℕ, Bool, true, false, cond, ◌||◌, eqb, List, [], ◌∷◌, map, Option, Some, None, refl, sym, ap, ◌∙◌}
-use Rattle.std.specs.List.{cons_option, filter_map, list_any}
+use Rattle.std.proofs.Common.{◌≡◌, ℕ, Bool, true, false, cond, ◌||◌, eqb, List, ◌∷◌, map, Option, Some, None, refl, sym, ap, ◌∙◌}
+use Rattle.std.specs.List.{filter_map, list_any}
 use Rattle.std.specs.BTreeMap.{is_at}
 use Rattle.std.specs.Map.{lookup, keys_of}
 use Rattle.std.specs.Ordering.{nat_cmp}
@@ -9,15 +9,14 @@ use Rattle.std.specs.List.Sorted.{IsStrictlySortedBy}
 use Rattle.std.proofs.lemmas.List.{map-id}
 use Rattle.std.proofs.lemmas.Simd.{map-map}
 use Rattle.amq_model.specs.declared.record.Placed.{Placed}
-use Rattle.amq_model.specs.declared.record.Record.{Record}
-use Rattle.amq_model.specs.declared.record.Record.TheVariants.{Add, Update, AddTx, UpdateTx, DeleteTx, Delete, Prepare, Commit, Rollback}
 use Rattle.amq_model.specs.declared.state.EntryEnd.{EntryEnd}
 use Rattle.amq_model.specs.declared.state.EntryEnd.TheVariants.{Put, Gone}
 use Rattle.amq_model.specs.Effect.{ascending, deletes, entry_of}
 use Rattle.amq_model.specs.Answers.{touches}
-use Rattle.amq_state.specs.Open.{touched_id, is_gone, end_of, touched_by}
+use Rattle.amq_model.specs.Open.{touched_id, is_gone, end_of, touched_by}
+use Rattle.amq_model.proofs.AscendingLaws.{any-ascending, ascending-sorted, same_numbers}
+use Rattle.amq_model.proofs.TouchedIds.{touched_listed}
 use Rattle.amq_state.specs.Parts.{noted, noted_as}
-use Rattle.amq_state.proofs.AscendingLaws.{any-ascending, ascending-sorted, same_numbers, sides}
 use Rattle.amq_state.proofs.EntryLaws.{entries_same, found_listed}
 
 -- what the last of these does to the id, if one touches it
@@ -39,33 +38,6 @@ noted_more id p ps = by (touches id p) (list_any (touches id) ps) where
   by false true = refl
   by true false = refl
   by false false = refl
-
--- ---- the ids
-
-id_touches : (id : ℕ) (p : Placed) → touches id p ≡ elim (touched_id p) [ None ↦ false | Some i ↦ eqb i id ]
-id_touches id p = by p.rec where
-  or_false : (b : Bool) → (b || false) ≡ b
-  or_false true = refl
-  or_false false = refl
-
-  by : (rec : Record) → touches id (record { file = p.file; place = p.place; compact = p.compact; rec = rec }) ≡ elim (touched_id (record { file = p.file; place = p.place; compact = p.compact; rec = rec })) [ None ↦ false | Some i ↦ eqb i id ]
-  by (Add i user_type body) = refl
-  by (Update i user_type body) = refl
-  by (AddTx tx i user_type body) = refl
-  by (UpdateTx tx i user_type body) = refl
-  by (DeleteTx tx i body) = or_false (eqb i id)
-  by (Delete i) = or_false (eqb i id)
-  by (Prepare tx count extra) = refl
-  by (Commit tx count) = refl
-  by (Rollback tx) = refl
-
--- an id is touched exactly where it is among the ids
-pub touched_listed : (id : ℕ) (ps : List Placed) → list_any (touches id) ps ≡ list_any (eqb id) (filter_map touched_id ps)
-touched_listed id [] = refl
-touched_listed id (p ∷ ps) = ap (λ (b : Bool). b || list_any (touches id) ps) (id_touches id p) ∙ ap (λ (b : Bool). elim (touched_id p) [ None ↦ false | Some i ↦ eqb i id ] || b) (touched_listed id ps) ∙ by (touched_id p) where
-  by : (o : Option ℕ) → (elim o [ None ↦ false | Some i ↦ eqb i id ] || list_any (eqb id) (filter_map touched_id ps)) ≡ list_any (eqb id) (cons_option o (filter_map touched_id ps))
-  by None = refl
-  by (Some i) = ap (λ (b : Bool). b || list_any (eqb id) (filter_map touched_id ps)) (sides i id)
 
 -- ---- as a list
 

@@ -1,9 +1,7 @@
 pub mod Fed
 pub mod Backward
 pub mod Plain
-pub mod Ids
 pub mod Held
 pub mod Turns
 pub mod Follows
-pub mod Open
 pub mod Parts

@@ -9,9 +9,9 @@ use Rattle.amq_model.specs.declared.state.EntryEnd.{EntryEnd}
 use Rattle.amq_model.specs.declared.state.EntryEnd.TheVariants.{Put, Gone}
 use Rattle.amq_model.specs.Effect.{entry_of, removal_of, deletes}
 use Rattle.amq_model.specs.Answers.{touches}
+use Rattle.amq_model.specs.Open.{touched_by}
 use Rattle.amq_state.specs.declared.turn.Turn.{Turn}
 use Rattle.amq_state.specs.Turns.{TurnState, told}
-use Rattle.amq_state.specs.Open.{touched_by}
 
 -- the transaction in doubt, if it has a sound PREPARE
 abbrev pub doubt_in : ℕ → TurnState → Option InDoubt

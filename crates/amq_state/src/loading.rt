@@ -1,7 +1,7 @@
 ghost use Rattle.std.specs.Prelude.{◌≡◌, ◌++◌, [], map, take, vec_len, IfOk, OnOk, OnErr};
 ghost use Rattle.amq_model.specs.Effect.{result_of};
-ghost use Rattle.amq_state.specs.Ids.{live_numbers};
-ghost use Rattle.amq_state.specs.Open.{open_txs, highest_of};
+ghost use Rattle.amq_model.specs.Ids.{live_numbers};
+ghost use Rattle.amq_model.specs.Open.{open_txs, highest_of};
 ghost use Rattle.amq_state.specs.Fed.{placed_of, AreBelow};
 
 use crate::doubts::doubts_from;

@@ -8,9 +8,9 @@ ghost use Rattle.amq_model.specs.declared.record.Placed.{Placed as AnyPlaced};
 ghost use Rattle.amq_model.specs.declared.state.EntryEnd.TheVariants.{Put, Gone};
 ghost use Rattle.amq_model.specs.Effect.{deletes};
 ghost use Rattle.amq_model.specs.Answers.{number_of};
+ghost use Rattle.amq_model.specs.Open.{touched_id, touched_by, open_txs, highest_of};
 ghost use Rattle.amq_state.specs.Held.{held};
 ghost use Rattle.amq_state.specs.Turns.{told, turn_in};
-ghost use Rattle.amq_state.specs.Open.{touched_id, touched_by, open_txs, highest_of};
 ghost use Rattle.amq_state.specs.Parts.{open_at, noted};
 
 use crate::turn::Turn;

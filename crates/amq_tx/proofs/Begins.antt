@@ -20,10 +20,10 @@ use Rattle.amq_model.specs.declared.state.Entry.{Entry}
 use Rattle.amq_model.specs.declared.state.EntryEnd.{EntryEnd}
 use Rattle.amq_model.specs.Effect.{ends, changes, open_changes, prepared, prepared_here, prepared_from, is_sound, ascending, live}
 use Rattle.amq_model.specs.Answers.{number_of, is_some_of, is_left_open, is_open, highest, touches}
-use Rattle.amq_state.specs.Ids.{live_numbers}
-use Rattle.amq_state.specs.Open.{touched_id, end_of, touched_by, open_tx, open_txs, highest_of}
-use Rattle.amq_state.proofs.AscendingLaws.{any-ascending, ascending-sorted, sides}
-use Rattle.amq_state.proofs.TouchedLaws.{touched_listed}
+use Rattle.amq_model.specs.Ids.{live_numbers}
+use Rattle.amq_model.specs.Open.{touched_id, end_of, touched_by, open_tx, open_txs, highest_of}
+use Rattle.amq_model.proofs.AscendingLaws.{any-ascending, ascending-sorted, sides}
+use Rattle.amq_model.proofs.TouchedIds.{touched_listed}
 use Rattle.amq_tx.proofs.Opened.{open_listed}
 use Rattle.amq_tx.specs.State.{TurnState, count_of, is_prepared_in}
 use Rattle.amq_tx.specs.Starting.{turn_or, opened_turn, ends_of, touches_of, AreListed, started}

@@ -5,7 +5,7 @@ use Rattle.std.specs.Map.{lookup, keys_of}
 use Rattle.std.proofs.lemmas.Bool.{eqb-true}
 use Rattle.std.proofs.lemmas.Map.Entries.{lookup-filter-keys}
 use Rattle.amq_model.specs.declared.state.EntryEnd.{EntryEnd}
-use Rattle.amq_state.proofs.AscendingLaws.{sides}
+use Rattle.amq_model.proofs.AscendingLaws.{sides}
 use Rattle.amq_tx.specs.State.{without}
 
 pub without_twice : (tx : ℕ) (xs : List (ℕ × EntryEnd)) → without tx (without tx xs) ≡ without tx xs

@@ -17,7 +17,7 @@ use Rattle.amq_model.specs.declared.state.EntryEnd.TheVariants.{Put, Gone}
 use Rattle.amq_model.specs.Effect.{ends, changes, deletes, open_changes, prepared, counted, effect_of}
 use Rattle.amq_model.specs.Answers.{in_view, touches}
 use Rattle.amq_model.proofs.Grows.{open_changes-snoc, opened, prepared_from-snoc, prepares}
-use Rattle.amq_state.proofs.AscendingLaws.{sides}
+use Rattle.amq_model.proofs.AscendingLaws.{sides}
 use Rattle.amq_tx.specs.State.{TurnState, TxState, put, first_but, without, count_of, is_prepared_in}
 use Rattle.amq_tx.specs.Applying.{one_more, prepared_now, with_change, with_prepare}
 use Rattle.amq_tx.specs.Follows.{Knows, AreBelow, end_in}

@@ -4,7 +4,7 @@ use Rattle.std.specs.List.{cons_option, filter_map, list_any}
 use Rattle.amq_model.specs.declared.record.Placed.{Placed}
 use Rattle.amq_model.specs.Effect.{ends}
 use Rattle.amq_model.specs.Answers.{number_of, is_some_of, is_left_open}
-use Rattle.amq_state.proofs.AscendingLaws.{sides}
+use Rattle.amq_model.proofs.AscendingLaws.{sides}
 
 -- an open transaction has its number there
 pub open_listed : (q : ℕ) (ps : List Placed) → (list_any (eqb q) (filter_map (λ p. number_of p.rec) ps) && is_left_open q ps) ≡ is_left_open q ps

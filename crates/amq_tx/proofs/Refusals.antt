@@ -20,8 +20,8 @@ use Rattle.amq_model.specs.declared.refusal.Refusal.{Refusal}
 use Rattle.amq_model.specs.declared.refusal.Refusal.TheVariants.{NoTx, TxPrepared, Held, AlreadyLive, NoRecord, TxNumbersSpent}
 use Rattle.amq_model.specs.Effect.{ends, changes, open_changes, prepared, ascending}
 use Rattle.amq_model.specs.Answers.{tx_of, id_of, is_add, works_in_tx, number_of, is_some_of, is_open, is_prepared, in_view, touches, history_of, holders, tx_refusal, held, id_refusal, spent, first_some}
-use Rattle.amq_state.specs.Open.{end_of}
-use Rattle.amq_state.proofs.AscendingLaws.{any-ascending, ascending-sorted, same_numbers, sides}
+use Rattle.amq_model.specs.Open.{end_of}
+use Rattle.amq_model.proofs.AscendingLaws.{any-ascending, ascending-sorted, same_numbers, sides}
 use Rattle.amq_tx.specs.State.{TurnState, TxState, first_but, is_prepared_in}
 use Rattle.amq_tx.specs.Refusing.{turn_refusal, tx_refusal_in, holder_in, held_by, held_in, live_after, view_in, live_refusal, id_refusal_in, spent_in, refusal_in}
 use Rattle.amq_tx.specs.Follows.{Follows, end_in}

@@ -11,11 +11,11 @@ use Rattle.std.proofs.lemmas.List.Elements.{All-head, All-tail}
 use borrow.Author.Tests.{ltb-true}
 use Rattle.amq_model.specs.declared.state.EntryEnd.{EntryEnd}
 use Rattle.amq_model.specs.declared.state.OpenTx.{OpenTx}
+use Rattle.amq_model.proofs.AscendingLaws.{sides}
 use Rattle.amq_tx.specs.declared.turn.Turn.{Turn}
 use Rattle.amq_tx.specs.State.{TurnState}
 use Rattle.amq_tx.specs.Parts.{turn_of, ids_of}
 use Rattle.amq_tx.specs.Starting.{turn_or, ids_or, opened_turn, ends_of, touches_of}
-use Rattle.amq_state.proofs.AscendingLaws.{sides}
 
 -- one transaction more
 pub turn_put : (o : OpenTx) (t : Turn) (old new : Option Turn) (q : ℕ) → new ≡ cond (eqb o.tx q) (Some t) old → turn_of t ≡ opened_turn o → option_map turn_of new ≡ turn_or q (option_map turn_of old) o

@@ -14,7 +14,7 @@ use Rattle.amq_model.specs.declared.state.Entry.{Entry}
 use Rattle.amq_model.specs.declared.state.EntryEnd.TheVariants.{Put, Gone}
 use Rattle.amq_model.specs.Effect.{deletes, entry_of, remaining, in_effect, effect_of}
 use Rattle.amq_model.specs.Answers.{live_behind, in_view, touches}
-use Rattle.amq_state.specs.Open.{is_gone, end_of}
+use Rattle.amq_model.specs.Open.{is_gone, end_of}
 use Rattle.amq_model.proofs.EffectGrows.{effect_grows}
 use Rattle.amq_model.proofs.Grows.{any-snoc, kept_by, remaining-snoc}
 use Rattle.amq_tx.specs.Refusing.{live_after}

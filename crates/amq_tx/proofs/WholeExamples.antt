@@ -1,5 +1,5 @@
 -- What a crash leaves of transactions over two files, and two histories of which it would leave one in part.
-use Rattle.std.proofs.Common.{◌≡◌, inl, inr, ℕ, zero, suc, ◌<◌, true, false, List, [], ◌∷◌, ◌++◌, take, Option, Some, None, refl, ap, arith}
+use Rattle.std.proofs.Common.{◌≡◌, inl, inr, ⊎_elim, ℕ, zero, suc, ◌<◌, true, false, List, [], ◌∷◌, ◌++◌, take, Option, Some, None, refl, ap, arith}
 use Rattle.std.specs.Prelude.{All, Contains, map, ◌&&◌}
 use Rattle.amq_model.specs.declared.record.Record.{Record}
 use Rattle.amq_model.specs.declared.record.Record.TheVariants as r
@@ -11,7 +11,7 @@ use Rattle.amq_model.specs.declared.config.Config.{Config}
 use Rattle.amq_model.specs.declared.history.Answer.{Answer}
 use Rattle.amq_model.specs.declared.history.Answer.TheVariants.{Done, Refused}
 use Rattle.amq_model.specs.declared.history.Step.{Step}
-use Rattle.amq_model.specs.declared.refusal.Refusal.TheVariants.{NoTx}
+use Rattle.amq_model.specs.declared.refusal.Refusal.TheVariants.{NoTx, FileIdsSpent}
 use Rattle.amq_model.specs.Effect.{is_sound, live}
 use Rattle.amq_model.specs.Answers.{history_of, answer}
 use Rattle.amq_model.specs.Legal.{AreLegalFrom}
@@ -60,12 +60,12 @@ the_history = refl
 
 pub steps_are_legal : AreLegalFrom [] usual [] steps
 steps_are_legal = (
-  record { answered = refl; placed = refl },
+  record { answered = inl refl; placed = refl },
   (
-    record { answered = refl; placed = (refl, refl, omega arith, (refl, λ k d lt. omega arith)) },
+    record { answered = inl refl; placed = (refl, refl, omega arith, (refl, λ k d lt. omega arith)) },
     (
-      record { answered = refl; placed = (refl, refl, omega arith, inr (omega arith, refl)) },
-      (record { answered = refl; placed = (refl, refl, omega arith, inl (refl, refl)) }, (record { answered = refl; placed = (refl, refl, omega arith, inl (refl, refl)) }, tt)),
+      record { answered = inl refl; placed = (refl, refl, omega arith, inr (omega arith, refl)) },
+      (record { answered = inl refl; placed = (refl, refl, omega arith, inl (refl, refl)) }, (record { answered = inl refl; placed = (refl, refl, omega arith, inl (refl, refl)) }, tt)),
     ),
   ),
 )
@@ -113,7 +113,7 @@ abbrev committed : List Step
 committed = step 1 (c.Commit 5) (Done (Appended 0)) (Some (at 2 16 (r.Commit 5 0))) ∷ []
 
 pub committed_is_legal : AreLegalFrom base usual [] committed
-committed_is_legal = (record { answered = refl; placed = (refl, refl, omega arith, (refl, below)) }, tt) where
+committed_is_legal = (record { answered = inl refl; placed = (refl, refl, omega arith, (refl, below)) }, tt) where
   below : All (λ q. q.file < 2) base
   below zero d lt = omega arith
   below (suc zero) d lt = omega arith
@@ -129,6 +129,31 @@ committed_again = refl
 pub another_number : answer base committed usual c.Begin ≡ Done (Begun 6)
 another_number = refl
 
+-- ---- an add that was refused since the numbers of files are spent
+
+abbrev short : Config
+short = record { file_size = 70; min_files = 2; pool_files = None; compact_min_files = 10; compact_percentage = 30; buffer_size = 501760; buffer_timeout = 3; user_version = 0 }
+
+-- it needs a further file, and the COMMIT behind it doesn't
+abbrev with_spent : List Step
+with_spent = one_file
+    ++ step 3 (c.AddTx 1 4 7 []) (Refused (FileIdsSpent 2147483647)) None
+    ∷ step 4 (c.Commit 1) (Done (Appended 1)) (Some (at 1 47 (r.Commit 1 1)))
+    ∷ []
+
+pub with_spent_is_legal : AreLegalFrom [] short [] with_spent
+with_spent_is_legal = (
+  record { answered = inl refl; placed = refl },
+  (
+    record { answered = inl refl; placed = (refl, refl, omega arith, (refl, λ k d lt. omega arith)) },
+    (record { answered = inr (refl, refl, tt); placed = refl }, (record { answered = inl refl; placed = (refl, refl, omega arith, inl (refl, refl)) }, tt)),
+  ),
+)
+
+-- it has appended nothing: the transaction has the one add
+pub with_spent_is_live : map (λ e. e.id) (live (history_of with_spent)) ≡ 3 ∷ []
+with_spent_is_live = refl
+
 -- ---- two histories of which a crash would leave a transaction in part
 
 -- what isn't durable lies in two files: of a legal history the add may be lost, and the COMMIT in the next file is sound without it
@@ -137,8 +162,8 @@ over_two_files = one_file ++ step 3 (c.Commit 1) (Done (Appended 1)) (Some (at 2
 
 pub over_two_files_is_legal : AreLegalFrom [] usual [] over_two_files
 over_two_files_is_legal = (
-  record { answered = refl; placed = refl },
-  (record { answered = refl; placed = (refl, refl, omega arith, (refl, λ k d lt. omega arith)) }, (record { answered = refl; placed = (refl, refl, omega arith, inr (omega arith, refl)) }, tt)),
+  record { answered = inl refl; placed = refl },
+  (record { answered = inl refl; placed = (refl, refl, omega arith, (refl, λ k d lt. omega arith)) }, (record { answered = inl refl; placed = (refl, refl, omega arith, inr (omega arith, refl)) }, tt)),
 )
 
 abbrev commit_alone : List Placed
@@ -174,4 +199,4 @@ pub no_second_turn : answer [] steps usual (c.DeleteTx 1 3 []) ≡ Refused (NoTx
 no_second_turn = refl
 
 pub no_legal_turn : (k : ℕ) (p : Placed) → AreLegalFrom [] usual steps (step 6 (c.DeleteTx 1 3 []) (Done (Appended k)) (Some p) ∷ []) → ⊥
-no_legal_turn k p legal = let e : Done (Appended k) ≡ Refused (NoTx 1) = legal.0.answered in cc
+no_legal_turn k p legal = ⊎_elim (λ e. let f : Done (Appended k) ≡ Refused (NoTx 1) = e in cc) (λ e. e.2) legal.0.answered

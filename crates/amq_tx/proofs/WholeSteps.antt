@@ -1,6 +1,6 @@
 -- What a legal step does: nothing to any transaction, or it begins one, or it appends a record.
 use Rattle.std.proofs.Common.{◌≡◌, ◌⊎◌, inl, inr, ⊎_elim, ℕ, ◌+◌, Bool, true, false, cond, eqb, List, [], ◌∷◌, ◌++◌, refl, sym, ap, ◌∙◌, Option, Some, None, not}
-use Rattle.std.specs.Prelude.{◌&&◌, ◌||◌}
+use Rattle.std.specs.Prelude.{◌&&◌, ◌||◌, ◌-◌, ◌^◌}
 use Rattle.std.proofs.lemmas.Bool.{eqb-true, eq-eqb, false≢true}
 use Rattle.std.proofs.lemmas.Option.{same_Some, none-some}
 use Rattle.amq_model.specs.declared.record.Record.{Record}
@@ -15,10 +15,11 @@ use Rattle.amq_model.specs.declared.history.Answer.{Answer}
 use Rattle.amq_model.specs.declared.history.Answer.TheVariants.{Done, Refused}
 use Rattle.amq_model.specs.declared.history.Step.{Step}
 use Rattle.amq_model.specs.declared.refusal.Refusal.{Refusal}
+use Rattle.amq_model.specs.declared.refusal.Refusal.TheVariants.{FileIdsSpent}
 use Rattle.amq_model.specs.Effect.{ends, counted, is_sound}
 use Rattle.amq_model.specs.Kept.{closing_tx}
 use Rattle.amq_model.specs.Answers.{history_of, open_behind, is_open, begun_in, highest, too_large, tx_refusal, held, id_refusal, spent, first_some, accepted, refusal, answer}
-use Rattle.amq_model.specs.Legal.{Appends, IsLegalStep, file_full, or_file_full}
+use Rattle.amq_model.specs.Legal.{Appends, IsAnswered, IsLegalStep}
 
 -- ---- the kinds of steps
 
@@ -46,12 +47,8 @@ Kind base before s = Unchanging s ⊎ Beginning base before s ⊎ ((p : Placed) 
 -- ---- what was accepted
 
 -- what was done was answered by the journal of one thread
-answered_done : (history : List Placed) (config : Config) (command : Command) (a : Answer) (reply : Reply) → Done reply ≡ or_file_full history config command a → Done reply ≡ a
-answered_done history config command (Refused refusal) reply e = e
-answered_done history config command (Done other) reply e = by (file_full history config command) e where
-  by : (o : Option Refusal) → Done reply ≡ elim o [ None ↦ Done other | Some refusal ↦ Refused refusal ] → Done reply ≡ Done other
-  by None e = e
-  by (Some refusal) e = absurd cc
+answered_done : (base : List Placed) (steps : List Step) (config : Config) (command : Command) (reply : Reply) → IsAnswered base steps config command (Done reply) → Done reply ≡ answer base steps config command
+answered_done base steps config command reply h = ⊎_elim (λ e. e) (λ spent. let e : Done reply ≡ Refused (FileIdsSpent (2 ^ 31 - 1)) = spent.0 in absurd cc) h
 
 none_refused : (o : Option Refusal) (a : Answer) (reply : Reply) → Done reply ≡ elim o [ Some refusal ↦ Refused refusal | None ↦ a ] → (o ≡ None) × (Done reply ≡ a)
 none_refused None a reply e = (refl, e)
@@ -116,7 +113,7 @@ module _ (base : List Placed) (before : List Step) (config : Config) where
   kind : (seat number : ℕ) (command : Command) (ans : Answer) (placed : Option Placed) → IsLegalStep base before config (step seat number command ans placed) → Kind base before (step seat number command ans placed)
   kind seat number command (Refused refusal) placed legal = inl (record { placed = legal.placed; behind = λ tx b. refl })
   kind seat number command (Done reply) placed legal =
-      let t = none_refused (refusal base before config command) (accepted base before command) reply (answered_done (history_of before) config command (answer base before config command) reply legal.answered) in
+      let t = none_refused (refusal base before config command) (accepted base before command) reply (answered_done base before config command reply legal.answered) in
       by command reply placed (second_none (too_large config command) (tx_refusal base before command) (others command) t.0) t.1 legal.placed
     where
       by : (command : Command) (reply : Reply) (placed : Option Placed) → tx_refusal base before command ≡ None → Done reply ≡ accepted base before command → Appends base before config command placed → Kind base before (step seat number command (Done reply) placed)

@@ -14,7 +14,7 @@ use Rattle.amq_model.specs.declared.refusal.Refusal.{Refusal}
 use Rattle.amq_model.specs.Effect.{open_changes, prepared, counted}
 use Rattle.amq_model.specs.Answers.{history_of, is_open, in_view, touches, highest, record_of, accepted, first_some, tx_refusal, held, id_refusal, spent}
 use Rattle.amq_model.specs.Legal.{number_for}
-use Rattle.amq_state.specs.Open.{end_of}
+use Rattle.amq_model.specs.Open.{end_of}
 use Rattle.amq_tx.specs.State.{TxState, count_of, is_prepared_in}
 
 -- what the last of these records of the id does to it, if there is one

@@ -1,18 +1,25 @@
-use Rattle.std.proofs.Common.{◌≡◌, ◌⊎◌, inr, [], sym, ap, subst, ◌∙◌, rules}
+use Rattle.std.proofs.Common.{◌≡◌, ◌⊎◌, inr, ℕ, [], sym, ap, subst, ◌∙◌, rules}
 use Rattle.std.specs.Prelude.{IsSome}
 use Rattle.amq_model.specs.declared.config.Config.{Config}
 use Rattle.amq_model.specs.Answers.{history_of}
 use Rattle.amq_model.specs.Leaves.{Told}
-use Rattle.amq_engine.specs.Engine.{data_name}
-use Rattle.amq_engine.specs.OneFile.{IsJournalFile}
+use Rattle.amq_engine.specs.Directory.{IsJournal}
 use Rattle.amq_engine.specs.Receipts.{IsCrashSafe}
-use Rattle.amq_cli.specs.Offline.{HasRunOn, HasText, HasDiskCause, IsLoadedState, lists_of}
+use Rattle.amq_cli.specs.Offline.{IsReported, HasRunOn, HasText, HasDiskCause, IsLoadedState, lists_of}
+use Rattle.amq_cli.specs.Loaded.{HasFilesTo}
 use Rattle.amq_cli.specs.declared.status.Status.TheVariants.{Ok}
 use Rattle.amq_cli.proofs.Recovering.{safe_still}
-use Rattle.amq_cli.proofs.Reloading.{has_run_on, never_done, closed_so}
+use Rattle.amq_cli.proofs.Reloading.{are_there, has_run_on, never_done, closed_so}
 use Rattle.amq_cli.proofs.Running.{replayed_closed, ended_closed, reported_text, unreported_text, refused_text, refusal_status, named_refusal}
 use Rattle.amq_cli.proofs.run.run_on.Goals as goal
 use Rattle.amq_cli.proofs.run.run_on.Goals.{in-Ok+in-Ok-closed, in-Ok+in-Err-closed, in-Err}
+
+pub add_report-requires-clause-there : goal.add_report-requires-clause-there
+add_report-requires-clause-there g c =
+    let played = c.replay-played.new.engine in
+    let closed = g.D.Disk.past c.close-disk.result.0 in
+    let there = are_there closed played.config.user_version played.file played.highest (history_of c.close-disk.result.1.steps.items) (closed_so c.close-disk.result.2 c.in-Ok-closed.field-0 _ c.in-Ok-closed.is c.close-disk.ensures.content) in
+    subst (λ (last : ℕ). Told closed (HasFilesTo last)) (sym c.file-last.ensures.id) there
 
 pub returns-clause-run : goal.returns-clause-run
 returns-clause-run g c =
@@ -25,9 +32,10 @@ returns-clause-run g c =
       | in-Ok+in-Ok-closed w ↦ (λ done.
           let before = c.replay-played.new.text.items in
           let replayed = replayed_closed config.buffer_timeout lines (lists_of played.chronicle) (lists_of kept) _ _ _ c.close-disk.ensures.receipt before w.in-Ok.ensures.replayed in
-          let file : Told closed (IsJournalFile data_name config.user_version config.file_size (history_of kept.steps.items)) = subst (λ (k : Config). Told closed (IsJournalFile data_name k.user_version k.file_size (history_of kept.steps.items))) c.replay-played.ensures.same.0 (closed_so c.close-disk.result.2 w.in-Ok-closed.field-0 _ w.in-Ok-closed.is c.close-disk.ensures.content) in
+          let journal : Told closed (IsJournal config.user_version played.file played.highest (history_of kept.steps.items)) = subst (λ (k : Config). Told closed (IsJournal k.user_version played.file played.highest (history_of kept.steps.items))) c.replay-played.ensures.same.0 (closed_so c.close-disk.result.2 w.in-Ok-closed.field-0 _ w.in-Ok-closed.is c.close-disk.ensures.content) in
           let none : kept.base ≡ [] = search rules in
-          let ran = has_run_on config lines before w.add_report.new.text.items kept.base kept.steps.items kept.receipts.items closed (g.D.Disk.past w.add_report.new.disk) c.requires.config replayed none file (w.add_report.ensures.reported (sym w.status-is ∙ done)) in
+          let reported = subst (λ (last : ℕ). IsReported last before w.add_report.new.text.items closed (g.D.Disk.past w.add_report.new.disk)) c.file-last.ensures.id (w.add_report.ensures.reported (sym w.status-is ∙ done)) in
+          let ran = has_run_on config played.file played.highest lines before w.add_report.new.text.items kept.base kept.steps.items kept.receipts.items closed (g.D.Disk.past w.add_report.new.disk) replayed none journal reported in
           subst (λ d. HasRunOn config lines c.match-played.text.items (g.D.Disk.past d) kept.base kept.steps.items kept.receipts.items) (sym w.disk-is) (subst (λ t. HasRunOn config lines t.items (g.D.Disk.past w.add_report.new.disk) kept.base kept.steps.items kept.receipts.items) (sym w.text-is) ran))
       | in-Ok+in-Err-closed w ↦ (λ done. absurd (never_done _ (sym w.status_of_refusal.ensures ∙ sym w.status-is ∙ done)))
       | in-Err w ↦ (λ done. absurd (never_done _ (sym w.status_of_refusal-status.ensures ∙ sym w.status-is ∙ done)))
@@ -45,21 +53,22 @@ returns-clause-text g c =
     let before = c.replay-played.new.text.items in
     let status = c.match-played.status in
     let faults = g.D.Disk.faults in
+    let first = faults c.args.engine.disk in
     let now = c.match-played.disk in
     let loaded = IsLoadedState (g.D.Disk.past now) config.user_version kept.base steps in
     elim c.match-played.branch [
       | in-Ok+in-Ok-closed w ↦ (let replayed = replayed_closed timeout lines (lists_of played.chronicle) (lists_of kept) _ _ _ c.close-disk.ensures.receipt before w.in-Ok.ensures.replayed in
           let unreported = subst (λ s. (s ≡ Ok) ⊎ (c.match-played.text.items ≡ before)) (sym w.status-is) (subst (λ t. (w.add_report.result ≡ Ok) ⊎ (t.items ≡ before)) (sym w.text-is) w.add_report.ensures.unreported) in
           let cause = subst (λ s. HasDiskCause s (faults c.close-disk.result.0) (faults w.add_report.new.disk)) (sym w.status-is) w.add_report.ensures.cause in
-          reported_text config status lines (faults now) (faults c.close-disk.result.0) (faults w.add_report.new.disk) kept.base steps receipts before c.match-played.text.items (g.D.Disk.past now) replayed (returns-clause-run g c) unreported cause)
+          reported_text config status lines first (faults now) (faults c.close-disk.result.0) (faults w.add_report.new.disk) kept.base steps receipts before c.match-played.text.items (g.D.Disk.past now) replayed (returns-clause-run g c) unreported cause)
       | in-Ok+in-Err-closed w ↦ (let replayed = replayed_closed timeout lines (lists_of played.chronicle) (lists_of kept) _ _ _ c.close-disk.ensures.receipt before w.in-Ok.ensures.replayed in
           let which = refusal_status w.in-Err-closed.refusal in
           let same = w.status-is ∙ w.status_of_refusal.ensures in
-          subst (λ s. HasText timeout s loaded lines (faults now) steps receipts c.match-played.text.items) (sym same) (unreported_text timeout _ loaded lines (faults now) steps receipts before c.match-played.text.items replayed (ap (λ t. t.items) w.text-is) which))
+          subst (λ s. HasText timeout s loaded lines first (faults now) steps receipts c.match-played.text.items) (sym same) (unreported_text timeout _ loaded lines first (faults now) steps receipts before c.match-played.text.items replayed (ap (λ t. t.items) w.text-is) which))
       | in-Err w ↦ (let ended = ended_closed timeout lines (lists_of played.chronicle) (lists_of kept) _ _ _ c.close-disk.ensures.receipt before _ _ w.in-Err.ensures.ended in
           let idle : IsSome played.closed → faults now ≡ faults played.disk = λ some. ap faults (w.disk-is ∙ c.close-disk.ensures.idle (inr some)) in
-          let named = named_refusal (Unit {0}) w.in-Err.refusal (faults c.args.engine.disk) (faults played.disk) (faults now) played.closed w.in-Err.ensures.cause w.in-Err.ensures.closes idle in
-          subst (λ t. HasText timeout status loaded lines (faults now) steps receipts t.items) (sym w.text-is) (refused_text timeout status loaded lines (faults now) steps receipts before w.in-Err.refusal w.in-Err.ensures.last (w.status-is ∙ w.status_of_refusal-status.ensures) named ended))
+          let named = named_refusal (Unit {0}) w.in-Err.refusal first (faults played.disk) (faults now) played.closed w.in-Err.ensures.cause w.in-Err.ensures.closes idle in
+          subst (λ t. HasText timeout status loaded lines first (faults now) steps receipts t.items) (sym w.text-is) (refused_text timeout status loaded lines first (faults now) steps receipts before w.in-Err.refusal w.in-Err.ensures.last (w.status-is ∙ w.status_of_refusal-status.ensures) named ended))
     ]
 
 pub returns-clause-crash_safe : goal.returns-clause-crash_safe

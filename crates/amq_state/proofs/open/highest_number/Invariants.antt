@@ -1,5 +1,5 @@
 use Rattle.std.proofs.Common.{◌≡◌, take}
-use Rattle.amq_state.specs.Open.{highest_of}
+use Rattle.amq_model.specs.Open.{highest_of}
 use Rattle.amq_state.proofs.open.highest_number.Given as goal
 
 abbrev pub invariant-loop-placed : goal.invariant-loop-placed

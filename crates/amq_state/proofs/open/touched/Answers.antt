@@ -7,8 +7,8 @@ use Rattle.std.proofs.lemmas.List.{length-map}
 use Rattle.std.proofs.lemmas.Grind.{common_steps}
 use Rattle.std.proofs.lemmas.Result.{IfOk-weaker}
 use Rattle.amq_model.specs.declared.record.Placed.{Placed}
+use Rattle.amq_model.specs.Open.{touched_by}
 use Rattle.amq_state.specs.Held.{held}
-use Rattle.amq_state.specs.Open.{touched_by}
 use Rattle.amq_state.specs.Parts.{noted}
 use Rattle.amq_state.proofs.HeldLaws.{held_place}
 use Rattle.amq_state.proofs.TouchedLaws.{end_if_touched, noted_more, touched_are}

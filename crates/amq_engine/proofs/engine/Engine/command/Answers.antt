@@ -1,35 +1,58 @@
-use Rattle.std.proofs.Common.{◌≡◌, ◌+◌, ◌≤◌, ℕ, length, List, [], Option, None, Some, sym, ap, subst, ◌∙◌, arith}
-use Rattle.std.specs.Prelude.{IfSome, option_map}
+use Rattle.std.proofs.Common.{◌≡◌, inl, inr, ⊎_elim, ◌+◌, ◌-◌, ◌^◌, ◌<◌, ◌≤◌, ℕ, Bool, true, cond, length, List, [], Option, None, sym, ap, subst, ◌∙◌, arith}
+use Rattle.std.specs.Prelude.{IfSome, option_map, ◌||◌, ◌&&◌, is_some, nat_lt, Ok, Err}
+use Rattle.amq_model.specs.Calls.{counted}
+use Rattle.amq_model.specs.Answers.{record_of, history_of}
+use Rattle.amq_model.specs.Legal.{number_for}
 use Rattle.amq_model.specs.declared.command.Reply.{Reply}
+use Rattle.amq_model.specs.declared.refusal.Refusal.{Refusal}
 use Rattle.amq_model.specs.declared.record.Record.{Record}
 use Rattle.amq_model.specs.declared.record.Placed.{Placed}
 use Rattle.amq_model.specs.declared.history.Answer.TheVariants.{Done}
-use Rattle.amq_model.specs.RecordAt.{len_of}
+use Rattle.amq_model.specs.RecordAt.{IsRecord, len_of}
 use Rattle.amq_tx.specs.State.{TxState}
 use Rattle.amq_tx.specs.Tables.{state_of}
 use Rattle.amq_tx.specs.Refusing.{refusal_in}
-use Rattle.amq_tx.specs.Follows.{Follows}
 use Rattle.amq_tx.proofs.Refusals.{refusals_are}
+use Rattle.amq_pool.specs.Pools.{PoolOf, ids_of}
 use Rattle.amq_engine.specs.declared.tail.Tail.{Tail}
 use Rattle.amq_engine.specs.Lists.{Lists, with_step}
-use Rattle.amq_engine.specs.Engine.{IsChronicle, IsValid, IsReply, flushes, end_of_tail, readied, with_put, reply_of, placed_behind, refused, record_len}
-use Rattle.amq_engine.proofs.Sound.{sound_there, sound_within, valid_room}
-use Rattle.amq_engine.proofs.Flushing.{written_durable}
-use Rattle.amq_engine.proofs.Accepting.{end_readied, written_first, reply_is, seen_accepted, values_of}
-use Rattle.amq_engine.proofs.Commanding.{few_appends, count_fits, put_fits, valid_refused, valid_accepted, valid_chronicle}
+use Rattle.amq_engine.specs.Engine.{IsChronicle, IsValid, Parts, IsReply, Notes, receipted, flushes, passes, spent, end_of_tail, readied, pool_readied, with_put, reply_of, placed_behind, fault_refusal, refused, record_len, prepares, is_nil}
+use Rattle.amq_engine.proofs.Sound.{sound_there, sound_within}
+use Rattle.amq_engine.proofs.Flushing.{written_durable, seen}
+use Rattle.amq_engine.proofs.Accepting.{written_first, reply_is, seen_accepted, values_of, not_closed}
+use Rattle.amq_engine.proofs.Commanding.{few_appends, small_id, count_fits, put_fits, numbers_left, table_accepts, valid_refused, valid_accepted, valid_chronicle, valid_room}
+use Rattle.amq_engine.proofs.Noting.{noted_refused, noted_failed, noted_accepted, fault_not_spent, spent_so, asks_nothing, fits_buffer, both_true, nil_is, is_nil_ids}
 use Rattle.amq_engine.proofs.engine.Engine.command.Goals as goal
 
 pub returns-in-Some-clause-chronicle : goal.returns-in-Some-clause-chronicle
 returns-in-Some-clause-chronicle g c =
     let e = c.self.inside in
     subst (λ v. IfSome (g.C.Chronicle.lists v.chronicle) (IsChronicle (g.D.Disk.past v.disk) (g.D.Disk.moment v.disk) v.config v.appended v.durable)) c.self.view_is
-    (valid_chronicle (g.D.Disk.past e.disk) (g.D.Disk.moment e.disk) (g.C.Chronicle.lists e.chronicle) (g.C.Chronicle.receipt_room e.chronicle) e.config (state_of e.table) e.tail c.self.invariant)
+    (valid_chronicle (g.D.Disk.past e.disk) (g.D.Disk.moment e.disk) (g.C.Chronicle.lists e.chronicle) (g.C.Chronicle.receipt_room e.chronicle) e.config (state_of e.table) e.pool e.tail c.self.invariant)
+
+pub invariant_of-self : goal.invariant_of-self
+invariant_of-self g c =
+    let e = c.self.inside in
+    let lists = g.C.Chronicle.lists in
+    let room = g.C.Chronicle.receipt_room in
+    let past = g.D.Disk.past e.disk in
+    let moment = g.D.Disk.moment e.disk in
+    let table = state_of c.room_for.new.table in
+    let roomy = valid_room past moment (lists e.chronicle) (lists c.room_for.new.chronicle) (room e.chronicle) (room c.room_for.new.chronicle) e.config (state_of e.table) e.pool e.tail c.room_for.ensures.lists c.room_for.ensures.room c.self.invariant in
+    let same : IsValid past moment (lists c.room_for.new.chronicle) (room c.room_for.new.chronicle) e.config table e.pool e.tail = subst (λ (s : TxState). IsValid past moment (lists c.room_for.new.chronicle) (room c.room_for.new.chronicle) e.config s e.pool e.tail) (sym c.room_for.ensures.table) roomy in
+    same
 
 pub returns-in-Err-clause-chronicle : goal.returns-in-Err-clause-chronicle
 returns-in-Err-clause-chronicle g c =
     let e = c.self.inside in
-    subst (λ l. IfSome l (IsChronicle (g.D.Disk.past e.disk) (g.D.Disk.moment e.disk) e.config e.tail.appended e.tail.durable)) (sym c.room_for.ensures.lists)
-    (valid_chronicle (g.D.Disk.past e.disk) (g.D.Disk.moment e.disk) (g.C.Chronicle.lists e.chronicle) (g.C.Chronicle.receipt_room e.chronicle) e.config (state_of e.table) e.tail c.self.invariant)
+    let lists = g.C.Chronicle.lists in
+    let room = g.C.Chronicle.receipt_room in
+    let past = g.D.Disk.past e.disk in
+    let moment = g.D.Disk.moment e.disk in
+    let table = state_of c.room_for.new.table in
+    let roomy = valid_room past moment (lists e.chronicle) (lists c.room_for.new.chronicle) (room e.chronicle) (room c.room_for.new.chronicle) e.config (state_of e.table) e.pool e.tail c.room_for.ensures.lists c.room_for.ensures.room c.self.invariant in
+    let same : IsValid past moment (lists c.room_for.new.chronicle) (room c.room_for.new.chronicle) e.config table e.pool e.tail = subst (λ (s : TxState). IsValid past moment (lists c.room_for.new.chronicle) (room c.room_for.new.chronicle) e.config s e.pool e.tail) (sym c.room_for.ensures.table) roomy in
+    valid_chronicle past moment (lists c.room_for.new.chronicle) (room c.room_for.new.chronicle) e.config table e.pool e.tail same
 
 pub invariant_of-self-in-Some-refusal_of : goal.invariant_of-self-in-Some-refusal_of
 invariant_of-self-in-Some-refusal_of g c =
@@ -39,26 +62,49 @@ invariant_of-self-in-Some-refusal_of g c =
     let past = g.D.Disk.past e.disk in
     let moment = g.D.Disk.moment e.disk in
     let table = state_of c.room_for.new.table in
-    let same = subst (λ (s : TxState). IsValid past moment (lists e.chronicle) (room e.chronicle) e.config s e.tail) (sym c.room_for.ensures.table) c.self.invariant in
-    let here = ap (λ (n : ℕ). refused e.config (refusal_in table c.args.command) n c.args.command) (ap (λ (l : List ℕ). e.tail.end + length l) (sym c.bytes.ensures)) in
-    valid_refused past e.config table e.tail c.args.command c.args.seat c.args.number c.requires.producer moment (lists e.chronicle) (lists c.step.new.self) (room e.chronicle) (room c.step.new.self) c.in-Some-refusal_of.refusal same
-    (refusals_are table [] same.sound.steps same.sound.follows c.args.command) (here ∙ sym c.in-Some-refusal_of.ensures.first)
+    let same = subst (λ (s : TxState). IsValid past moment (lists e.chronicle) (room e.chronicle) e.config s e.pool e.tail) (sym c.room_for.ensures.table) c.self.invariant in
+    let ends : e.tail.end + length c.bytes.result.now ≡ end_of_tail e.tail = ap (λ (l : List ℕ). e.tail.end + length l) c.bytes.ensures in
+    let moves : c.passes-moves.result ≡ passes e.config.file_size (end_of_tail e.tail) (record_len c.args.command) =
+    c.passes-moves.ensures ∙ ap (λ (n : ℕ). passes e.config.file_size n (option_map len_of c.in-Ok.rec)) ends ∙ ap (passes e.config.file_size (end_of_tail e.tail)) c.in-Ok.ensures.length in
+    let is = ap (λ (m : Bool). refused e.config (refusal_in table c.args.command) (spent m e.pool.highest (ids_of e.pool.prepared)) c.args.command) (sym moves) ∙ sym c.in-Some-refusal_of.ensures.first in
+    valid_refused past e.config table e.pool e.tail c.args.command c.args.seat c.args.number c.requires.producer moment (lists e.chronicle) (lists c.step.new.self) (room e.chronicle) (room c.step.new.self) c.in-Some-refusal_of.refusal same
+    (refusals_are table [] same.sound.parts.steps same.sound.parts.follows c.args.command) is
     (c.step.ensures.noted ∙ ap (option_map (with_step _)) c.room_for.ensures.lists) (omega (arith, c.room_for.ensures.room, c.step.ensures.receipts))
+
+pub returns-in-Some-refusal_of-clause-noted : goal.returns-in-Some-refusal_of-clause-noted
+returns-in-Some-refusal_of-clause-noted g c =
+    let e = c.self.inside in
+    noted_refused c.args.seat c.args.number c.args.command c.in-Some-refusal_of.refusal e.tail.file.id (end_of_tail e.tail) c.args.self.now.durable e.tail.durable _ _ _ (g.C.Chronicle.lists c.room_for.new.chronicle) (g.C.Chronicle.lists c.step.new.self) c.in-Some-refusal_of.ensures.kind (sym (ap (λ v. v.durable) c.self.view_is)) (c.room_for.ensures.lists ∙ ap (λ v. g.C.Chronicle.lists v.chronicle) c.self.view_is) c.step.ensures.noted
+
+pub returns-in-Some-refusal_of-clause-spent : goal.returns-in-Some-refusal_of-clause-spent
+returns-in-Some-refusal_of-clause-spent g c highest told =
+    let e = c.self.inside in
+    let lists = g.C.Chronicle.lists in
+    let room = g.C.Chronicle.receipt_room in
+    let past = g.D.Disk.past e.disk in
+    let moment = g.D.Disk.moment e.disk in
+    let table = state_of c.room_for.new.table in
+    let ends : e.tail.end + length c.bytes.result.now ≡ end_of_tail e.tail = ap (λ (l : List ℕ). e.tail.end + length l) c.bytes.ensures in
+    let moves : c.passes-moves.result ≡ passes e.config.file_size (end_of_tail e.tail) (record_len c.args.command) =
+    c.passes-moves.ensures ∙ ap (λ (n : ℕ). passes e.config.file_size n (option_map len_of c.in-Ok.rec)) ends ∙ ap (passes e.config.file_size (end_of_tail e.tail)) c.in-Ok.ensures.length in
+    let so = spent_so e.config table c.args.command c.passes-moves.result e.pool.highest highest (ids_of e.pool.prepared) c.in-Some-refusal_of.refusal c.self.invariant.sound.parts.numbers (sym c.in-Some-refusal_of.ensures.first) (let same : c.in-Some-refusal_of.refusal ≡ Rattle.amq_model.specs.declared.refusal.Refusal.TheVariants.FileIdsSpent highest = cc in same) in
+    let prepared : (passes e.config.file_size (end_of_tail e.tail) (record_len c.args.command) && is_nil (ids_of e.pool.prepared)) ≡ true = ap (λ (m : Bool). m && is_nil (ids_of e.pool.prepared)) (sym moves) ∙ so.2 in
+    (so.0 ∙ ap (λ v. v.highest) c.self.view_is, so.1, ap (λ v. prepares v c.args.command) (sym c.self.view_is) ∙ prepared)
 
 pub returns-in-Some-refusal_of-clause-chronicle : goal.returns-in-Some-refusal_of-clause-chronicle
 returns-in-Some-refusal_of-clause-chronicle g c =
     let e = c.self.inside in
-    valid_chronicle (g.D.Disk.past e.disk) (g.D.Disk.moment e.disk) (g.C.Chronicle.lists c.step.new.self) (g.C.Chronicle.receipt_room c.step.new.self) e.config (state_of c.room_for.new.table) e.tail (invariant_of-self-in-Some-refusal_of g c)
+    valid_chronicle (g.D.Disk.past e.disk) (g.D.Disk.moment e.disk) (g.C.Chronicle.lists c.step.new.self) (g.C.Chronicle.receipt_room c.step.new.self) e.config (state_of c.room_for.new.table) e.pool e.tail (invariant_of-self-in-Some-refusal_of g c)
 
 pub ready-requires-clause-there : goal.ready-requires-clause-there
 ready-requires-clause-there g c =
     let e = c.self.inside in
-    sound_there (g.D.Disk.past e.disk) (g.C.Chronicle.lists e.chronicle) (g.C.Chronicle.receipt_room e.chronicle) e.config (state_of e.table) e.tail c.self.invariant.sound
+    sound_there (g.D.Disk.past e.disk) (g.C.Chronicle.lists e.chronicle) (g.C.Chronicle.receipt_room e.chronicle) e.config (state_of e.table) e.pool e.tail c.self.invariant.sound
 
 pub ready-requires-clause-within : goal.ready-requires-clause-within
 ready-requires-clause-within g c =
     let e = c.self.inside in
-    sound_within (g.D.Disk.past e.disk) (g.C.Chronicle.lists e.chronicle) (g.C.Chronicle.receipt_room e.chronicle) e.config (state_of e.table) e.tail c.self.invariant.sound
+    sound_within (g.D.Disk.past e.disk) (g.C.Chronicle.lists e.chronicle) (g.C.Chronicle.receipt_room e.chronicle) e.config (state_of e.table) e.pool e.tail c.self.invariant.sound
 
 pub invariant_of-self-in-Err-ready : goal.invariant_of-self-in-Err-ready
 invariant_of-self-in-Err-ready g c =
@@ -68,15 +114,65 @@ invariant_of-self-in-Err-ready g c =
     let past = g.D.Disk.past e.disk in
     let moment = g.D.Disk.moment e.disk in
     let table = state_of c.room_for.new.table in
-    let roomy = valid_room past moment (lists e.chronicle) (lists c.room_for.new.chronicle) (room e.chronicle) (room c.room_for.new.chronicle) e.config (state_of e.table) e.tail c.room_for.ensures.lists c.room_for.ensures.room c.self.invariant in
-    let same = subst (λ (s : TxState). IsValid past moment (lists c.room_for.new.chronicle) (room c.room_for.new.chronicle) e.config s e.tail) (sym c.room_for.ensures.table) roomy in
-    let valid = c.ready.ensures.valid e.config table same in
-    valid
+    let roomy = valid_room past moment (lists e.chronicle) (lists c.room_for.new.chronicle) (room e.chronicle) (room c.room_for.new.chronicle) e.config (state_of e.table) e.pool e.tail c.room_for.ensures.lists c.room_for.ensures.room c.self.invariant in
+    let same : IsValid past moment (lists c.room_for.new.chronicle) (room c.room_for.new.chronicle) e.config table e.pool e.tail = subst (λ (s : TxState). IsValid past moment (lists c.room_for.new.chronicle) (room c.room_for.new.chronicle) e.config s e.pool e.tail) (sym c.room_for.ensures.table) roomy in
+    c.ready.ensures.valid e.config table same
+
+pub returns-in-Err-ready-clause-noted : goal.returns-in-Err-ready-clause-noted
+returns-in-Err-ready-clause-noted g c =
+    let e = c.self.inside in
+    let lists = g.C.Chronicle.lists in
+    let room = g.C.Chronicle.receipt_room in
+    let past = g.D.Disk.past e.disk in
+    let moment = g.D.Disk.moment e.disk in
+    let table = state_of c.room_for.new.table in
+    let P : Refusal → Type 0 = λ q. Notes c.args.seat c.args.number c.args.command (Err q) c.ready.new.tail.file.id (end_of_tail c.ready.new.tail) (receipted (nat_lt c.args.self.now.durable c.ready.new.tail.durable) c.args.self.now.appended (counted (counted (g.D.Disk.moment c.args.self.now.disk))) (lists c.args.self.now.chronicle)) (lists c.ready.new.chronicle) in
+    subst P (sym c.close_after.ensures.refusal)
+    (subst (λ v. Notes c.args.seat c.args.number c.args.command (Err (fault_refusal c.in-Err-ready.fault)) c.ready.new.tail.file.id (end_of_tail c.ready.new.tail) (receipted (nat_lt v.durable c.ready.new.tail.durable) v.appended (counted (counted (g.D.Disk.moment v.disk))) (lists v.chronicle)) (lists c.ready.new.chronicle)) c.self.view_is
+    (noted_failed c.args.seat c.args.number c.args.command c.in-Err-ready.fault e.config (state_of e.table) e.pool e.tail c.ready.new.tail c.ready.new.tail.file.id (end_of_tail c.ready.new.tail) moment (lists e.chronicle) (lists c.room_for.new.chronicle) (lists c.ready.new.chronicle) c.self.invariant.sound.parts c.room_for.ensures.lists
+    (⊎_elim (λ w. inl w) (λ w. inr w.2) c.in-Err-ready.ensures.err)))
+
+pub returns-in-Err-ready-clause-spent : goal.returns-in-Err-ready-clause-spent
+returns-in-Err-ready-clause-spent g c highest told =
+    fault_not_spent c.in-Err-ready.fault highest (ap (λ (q : Refusal). Err q) (sym c.close_after.ensures.refusal) ∙ told)
+
+pub returns-in-Err-ready-clause-idle : goal.returns-in-Err-ready-clause-idle
+returns-in-Err-ready-clause-idle g c =
+    let e = c.self.inside in
+    let lists = g.C.Chronicle.lists in
+    let room = g.C.Chronicle.receipt_room in
+    let past = g.D.Disk.past e.disk in
+    let moment = g.D.Disk.moment e.disk in
+    let table = state_of c.room_for.new.table in
+    let ends : e.tail.end + length c.bytes.result.now ≡ end_of_tail e.tail = ap (λ (l : List ℕ). e.tail.end + length l) c.bytes.ensures in
+    let moves : c.passes-moves.result ≡ passes e.config.file_size (end_of_tail e.tail) (record_len c.args.command) =
+    c.passes-moves.ensures ∙ ap (λ (n : ℕ). passes e.config.file_size n (option_map len_of c.in-Ok.rec)) ends ∙ ap (passes e.config.file_size (end_of_tail e.tail)) c.in-Ok.ensures.length in
+    let unclosed : c.args.self.now.closed ≡ None = sym (ap (λ v. v.closed) c.self.view_is) ∙ c.in_default.is in
+    ⊎_elim
+    (λ none.
+    let so = asks_nothing c.args.self.now c.args.command e.config.file_size (end_of_tail e.tail) e.tail.buffer.capacity (length e.tail.buffer.bytes) e.tail.buffer.since e.pool.prepared (sym (ap (λ v. v.config.file_size) c.self.view_is)) (sym (ap (λ v. v.end) c.self.view_is)) (sym (ap (λ v. v.config.buffer_size) c.self.view_is) ∙ sym c.self.invariant.sound.parts.capacity) (sym (ap (λ v. v.waiting) c.self.view_is)) (sym (ap (λ v. v.since) c.self.view_is)) (sym (ap (λ v. v.free) c.self.view_is)) none in
+    c.ready.ensures.idle
+    (ap (λ (m : Bool). (m || flushes e.tail.buffer.capacity (length e.tail.buffer.bytes) c.args.command) && is_some e.tail.buffer.since) moves ∙ so.0)
+    (ap (λ (m : Bool). m && is_nil e.pool.prepared) moves ∙ so.1)
+    ∙ ap (λ v. v.disk) c.self.view_is)
+    (λ shut. absurd (not_closed c.args.self.now.closed unclosed shut))
 
 pub returns-in-Err-ready-clause-chronicle : goal.returns-in-Err-ready-clause-chronicle
 returns-in-Err-ready-clause-chronicle g c =
     let e = c.self.inside in
-    valid_chronicle (g.D.Disk.past c.ready.new.disk) (g.D.Disk.moment c.ready.new.disk) (g.C.Chronicle.lists c.ready.new.chronicle) (g.C.Chronicle.receipt_room c.ready.new.chronicle) e.config (state_of c.room_for.new.table) c.ready.new.tail (invariant_of-self-in-Err-ready g c)
+    valid_chronicle (g.D.Disk.past c.ready.new.disk) (g.D.Disk.moment c.ready.new.disk) (g.C.Chronicle.lists c.ready.new.chronicle) (g.C.Chronicle.receipt_room c.ready.new.chronicle) e.config (state_of c.room_for.new.table) c.ready.new.pool c.ready.new.tail (invariant_of-self-in-Err-ready g c)
+
+pub apply-given-requires-clause-checked : goal.apply-given-requires-clause-checked
+apply-given-requires-clause-checked g c =
+    let e = c.self.inside in
+    let lists = g.C.Chronicle.lists in
+    let room = g.C.Chronicle.receipt_room in
+    let past = g.D.Disk.past e.disk in
+    let moment = g.D.Disk.moment e.disk in
+    let table = state_of c.room_for.new.table in
+    let by_numbers = spent c.passes-moves.result e.pool.highest (ids_of e.pool.prepared) in
+    let none : refused e.config (refusal_in table c.args.command) by_numbers c.args.command ≡ None = sym c.in_default-refusal_of.ensures.first in
+    table_accepts e.config (refusal_in table c.args.command) by_numbers c.args.command none
 
 pub apply-given-requires-clause-count : goal.apply-given-requires-clause-count
 apply-given-requires-clause-count g c =
@@ -86,10 +182,39 @@ apply-given-requires-clause-count g c =
     let past = g.D.Disk.past e.disk in
     let moment = g.D.Disk.moment e.disk in
     let table = state_of c.room_for.new.table in
-    let roomy = valid_room past moment (lists e.chronicle) (lists c.room_for.new.chronicle) (room e.chronicle) (room c.room_for.new.chronicle) e.config (state_of e.table) e.tail c.room_for.ensures.lists c.room_for.ensures.room c.self.invariant in
-    let same = subst (λ (s : TxState). IsValid past moment (lists c.room_for.new.chronicle) (room c.room_for.new.chronicle) e.config s e.tail) (sym c.room_for.ensures.table) roomy in
-    let valid = c.ready.ensures.valid e.config table same in
-    count_fits (g.D.Disk.past c.ready.new.disk) (lists c.ready.new.chronicle) (room c.ready.new.chronicle) e.config table c.ready.new.tail c.args.command valid.sound
+    let roomy = valid_room past moment (lists e.chronicle) (lists c.room_for.new.chronicle) (room e.chronicle) (room c.room_for.new.chronicle) e.config (state_of e.table) e.pool e.tail c.room_for.ensures.lists c.room_for.ensures.room c.self.invariant in
+    let same : IsValid past moment (lists c.room_for.new.chronicle) (room c.room_for.new.chronicle) e.config table e.pool e.tail = subst (λ (s : TxState). IsValid past moment (lists c.room_for.new.chronicle) (room c.room_for.new.chronicle) e.config s e.pool e.tail) (sym c.room_for.ensures.table) roomy in
+    let valid : IsValid (g.D.Disk.past c.ready.new.disk) (g.D.Disk.moment c.ready.new.disk) (lists c.ready.new.chronicle) (room c.ready.new.chronicle) e.config table c.ready.new.pool c.ready.new.tail = c.ready.ensures.valid e.config table same in
+    count_fits e.config table c.ready.new.pool c.ready.new.tail c.args.command valid.ranges valid.sound.parts
+
+pub put_record-reply-requires-clause-fits : goal.put_record-reply-requires-clause-fits
+put_record-reply-requires-clause-fits g c =
+    let e = c.self.inside in
+    let lists = g.C.Chronicle.lists in
+    let room = g.C.Chronicle.receipt_room in
+    let past = g.D.Disk.past e.disk in
+    let moment = g.D.Disk.moment e.disk in
+    let table = state_of c.room_for.new.table in
+    let by_numbers = spent c.passes-moves.result e.pool.highest (ids_of e.pool.prepared) in
+    let none : refused e.config (refusal_in table c.args.command) by_numbers c.args.command ≡ None = sym c.in_default-refusal_of.ensures.first in
+    let rec = c.numbered-rec.result in
+    let long : option_map len_of rec ≡ record_len c.args.command = c.numbered-rec.ensures.length ∙ c.in-Ok.ensures.length in
+    let parts : Parts e.config table e.pool e.tail = subst (λ (s : TxState). Parts e.config s e.pool e.tail) (sym c.room_for.ensures.table) c.self.invariant.sound.parts in
+    subst (λ (u : Tail). IfSome rec (λ rec. length u.buffer.bytes + len_of rec ≤ u.buffer.capacity)) (sym c.in_default-ready.ensures.ok)
+    (fits_buffer e.config table by_numbers (refusal_in table c.args.command) e.pool e.tail c.args.command rec c.passes-moves.result parts none long)
+
+pub put_record-reply-requires-clause-number : goal.put_record-reply-requires-clause-number
+put_record-reply-requires-clause-number g c =
+    let e = c.self.inside in
+    let lists = g.C.Chronicle.lists in
+    let room = g.C.Chronicle.receipt_room in
+    let past = g.D.Disk.past e.disk in
+    let moment = g.D.Disk.moment e.disk in
+    let table = state_of c.room_for.new.table in
+    let roomy = valid_room past moment (lists e.chronicle) (lists c.room_for.new.chronicle) (room e.chronicle) (room c.room_for.new.chronicle) e.config (state_of e.table) e.pool e.tail c.room_for.ensures.lists c.room_for.ensures.room c.self.invariant in
+    let same : IsValid past moment (lists c.room_for.new.chronicle) (room c.room_for.new.chronicle) e.config table e.pool e.tail = subst (λ (s : TxState). IsValid past moment (lists c.room_for.new.chronicle) (room c.room_for.new.chronicle) e.config s e.pool e.tail) (sym c.room_for.ensures.table) roomy in
+    let valid : IsValid (g.D.Disk.past c.ready.new.disk) (g.D.Disk.moment c.ready.new.disk) (lists c.ready.new.chronicle) (room c.ready.new.chronicle) e.config table c.ready.new.pool c.ready.new.tail = c.ready.ensures.valid e.config table same in
+    small_id e.config table c.ready.new.pool c.ready.new.tail valid.sound.parts
 
 pub put_record-reply-requires-clause-count : goal.put_record-reply-requires-clause-count
 put_record-reply-requires-clause-count g c =
@@ -99,10 +224,10 @@ put_record-reply-requires-clause-count g c =
     let past = g.D.Disk.past e.disk in
     let moment = g.D.Disk.moment e.disk in
     let table = state_of c.room_for.new.table in
-    let roomy = valid_room past moment (lists e.chronicle) (lists c.room_for.new.chronicle) (room e.chronicle) (room c.room_for.new.chronicle) e.config (state_of e.table) e.tail c.room_for.ensures.lists c.room_for.ensures.room c.self.invariant in
-    let same = subst (λ (s : TxState). IsValid past moment (lists c.room_for.new.chronicle) (room c.room_for.new.chronicle) e.config s e.tail) (sym c.room_for.ensures.table) roomy in
-    let valid = c.ready.ensures.valid e.config table same in
-    few_appends (g.D.Disk.past c.ready.new.disk) (lists c.ready.new.chronicle) (room c.ready.new.chronicle) e.config table c.ready.new.tail valid.sound
+    let roomy = valid_room past moment (lists e.chronicle) (lists c.room_for.new.chronicle) (room e.chronicle) (room c.room_for.new.chronicle) e.config (state_of e.table) e.pool e.tail c.room_for.ensures.lists c.room_for.ensures.room c.self.invariant in
+    let same : IsValid past moment (lists c.room_for.new.chronicle) (room c.room_for.new.chronicle) e.config table e.pool e.tail = subst (λ (s : TxState). IsValid past moment (lists c.room_for.new.chronicle) (room c.room_for.new.chronicle) e.config s e.pool e.tail) (sym c.room_for.ensures.table) roomy in
+    let valid : IsValid (g.D.Disk.past c.ready.new.disk) (g.D.Disk.moment c.ready.new.disk) (lists c.ready.new.chronicle) (room c.ready.new.chronicle) e.config table c.ready.new.pool c.ready.new.tail = c.ready.ensures.valid e.config table same in
+    few_appends e.config table c.ready.new.pool c.ready.new.tail valid.ranges valid.sound.parts
 
 pub invariant_of-self-2 : goal.invariant_of-self-2
 invariant_of-self-2 g c =
@@ -112,47 +237,174 @@ invariant_of-self-2 g c =
     let past = g.D.Disk.past e.disk in
     let moment = g.D.Disk.moment e.disk in
     let table = state_of c.room_for.new.table in
-    let roomy = valid_room past moment (lists e.chronicle) (lists c.room_for.new.chronicle) (room e.chronicle) (room c.room_for.new.chronicle) e.config (state_of e.table) e.tail c.room_for.ensures.lists c.room_for.ensures.room c.self.invariant in
-    let same = subst (λ (s : TxState). IsValid past moment (lists c.room_for.new.chronicle) (room c.room_for.new.chronicle) e.config s e.tail) (sym c.room_for.ensures.table) roomy in
-    let valid = c.ready.ensures.valid e.config table same in
+    let roomy = valid_room past moment (lists e.chronicle) (lists c.room_for.new.chronicle) (room e.chronicle) (room c.room_for.new.chronicle) e.config (state_of e.table) e.pool e.tail c.room_for.ensures.lists c.room_for.ensures.room c.self.invariant in
+    let same : IsValid past moment (lists c.room_for.new.chronicle) (room c.room_for.new.chronicle) e.config table e.pool e.tail = subst (λ (s : TxState). IsValid past moment (lists c.room_for.new.chronicle) (room c.room_for.new.chronicle) e.config s e.pool e.tail) (sym c.room_for.ensures.table) roomy in
+    let valid : IsValid (g.D.Disk.past c.ready.new.disk) (g.D.Disk.moment c.ready.new.disk) (lists c.ready.new.chronicle) (room c.ready.new.chronicle) e.config table c.ready.new.pool c.ready.new.tail = c.ready.ensures.valid e.config table same in
+    let ends : e.tail.end + length c.bytes.result.now ≡ end_of_tail e.tail = ap (λ (l : List ℕ). e.tail.end + length l) c.bytes.ensures in
+    let moves : c.passes-moves.result ≡ passes e.config.file_size (end_of_tail e.tail) (record_len c.args.command) =
+    c.passes-moves.ensures ∙ ap (λ (n : ℕ). passes e.config.file_size n (option_map len_of c.in-Ok.rec)) ends ∙ ap (passes e.config.file_size (end_of_tail e.tail)) c.in-Ok.ensures.length in
+    let by_numbers = spent c.passes-moves.result e.pool.highest (ids_of e.pool.prepared) in
+    let none : refused e.config (refusal_in table c.args.command) by_numbers c.args.command ≡ None = sym c.in_default-refusal_of.ensures.first in
     let t = c.ready.new.tail in
-    let rec = c.in-Ok.rec in
+    let rec = c.numbered-rec.result in
     let command = c.args.command in
     let by_table = refusal_in table command in
-    let steps = valid.sound.steps in
-    let first : Follows (state_of e.table) [] steps = subst (λ (s : TxState). Follows s [] steps) c.room_for.ensures.table valid.sound.follows in
-    let ended : end_of_tail t ≡ e.tail.end + length c.bytes.result.now = ap end_of_tail c.in_default-ready.ensures.ok ∙ end_readied _ e.tail ∙ ap (λ (l : List ℕ). e.tail.end + length l) (sym c.bytes.ensures) in
-    let none : refused e.config by_table (end_of_tail t) command ≡ None = ap (λ (n : ℕ). refused e.config by_table n command) ended ∙ sym c.in_default-refusal_of.ensures.first in
-    let values = values_of e.config by_table (end_of_tail t) command rec c.self.invariant.ranges none c.in-Ok.ensures.length c.in-Ok.ensures.values in
-    let fits = put_fits e.config by_table (end_of_tail t) command rec valid.sound.fits none c.in-Ok.ensures.length in
+    let steps = valid.sound.parts.steps in
+    let long : option_map len_of rec ≡ record_len command = c.numbered-rec.ensures.length ∙ c.in-Ok.ensures.length in
+    let numbered : rec ≡ record_of command (number_for (history_of steps) command t.file.id) = c.numbered-rec.ensures.record steps valid.sound.parts.follows in
+    let values : IfSome rec (λ rec. IsRecord rec) = c.numbered-rec.ensures.values (values_of e.config by_table by_numbers command c.in-Ok.rec c.self.invariant.ranges none c.in-Ok.ensures.length c.in-Ok.ensures.values) in
+    let fits : IfSome rec (λ rec. end_of_tail t + len_of rec ≤ e.config.file_size) =
+    subst (λ (u : Tail). IfSome rec (λ rec. end_of_tail u + len_of rec ≤ e.config.file_size)) (sym c.in_default-ready.ensures.ok) (put_fits e.config by_table by_numbers e.pool e.tail command rec c.passes-moves.result (flushes e.tail.buffer.capacity (length e.tail.buffer.bytes) command) c.self.invariant.ranges none long moves) in
     let empty : rec ≡ None → c.apply-given.result ≡ None → t.buffer.bytes ≡ [] =
-    λ no given. ap (λ (u : Tail). u.buffer.bytes) (c.in_default-ready.ensures.ok ∙ written_first table command e.tail (sym c.apply-given.ensures.number ∙ given) (sym c.in-Ok.ensures.length ∙ ap (λ (o : Option Record). option_map len_of o) no)) in
+    λ no given. ap (λ (u : Tail). u.buffer.bytes) (c.in_default-ready.ensures.ok ∙ ap (λ (m : Bool). readied m (flushes e.tail.buffer.capacity (length e.tail.buffer.bytes) command) e.pool e.tail) moves
+    ∙ written_first table command e.pool e.tail e.config.file_size (end_of_tail e.tail) (sym c.apply-given.ensures.number ∙ given) (sym long ∙ ap (λ (o : Option Record). option_map len_of o) no)) in
     let step : Reply → Option Placed → Option Lists = λ r p. option_map (with_step (record { seat = c.args.seat; number = c.args.number; command = command; answer = Done r; placed = p })) (lists c.ready.new.chronicle) in
     let noted : lists c.step-2.new.self ≡ step (reply_of t c.apply-given.result rec) (option_map (placed_behind t) rec) =
     c.step-2.ensures.noted ∙ ap (λ (r : Reply). step r c.put_record-reply.result.1) c.put_record-reply.ensures.reply ∙ ap (step (reply_of t c.apply-given.result rec)) c.put_record-reply.ensures.placed in
     let two : 2 ≤ room c.room_for.new.chronicle = c.in-Ok.ensures.receipts in
-    subst (λ (u : Tail). IsValid (g.D.Disk.past c.ready.new.disk) (g.D.Disk.moment c.ready.new.disk) (lists c.step-2.new.self) (room c.step-2.new.self) e.config (state_of c.apply-given.new.self) u) (sym c.put_record-reply.ensures.tail)
-    (valid_accepted (g.D.Disk.past c.ready.new.disk) e.config table t command c.args.seat c.args.number c.requires.producer (g.D.Disk.moment c.ready.new.disk) (lists c.ready.new.chronicle) (lists c.step-2.new.self) (room c.ready.new.chronicle) (room c.step-2.new.self) e.clock
-    (state_of c.apply-given.new.self) c.apply-given.result rec valid (refusals_are table [] steps valid.sound.follows command) none (c.in-Ok.ensures.record steps first) (c.apply-given.ensures.journal [] steps valid.sound.follows) values fits empty
-    (λ x accepted. c.apply-given.ensures.follows [] steps x valid.sound.follows accepted) noted (omega (arith, two, c.ready.ensures.room, c.step-2.ensures.receipts)))
+    subst (λ (u : Tail). IsValid (g.D.Disk.past c.ready.new.disk) (g.D.Disk.moment c.ready.new.disk) (lists c.step-2.new.self) (room c.step-2.new.self) e.config (state_of c.apply-given.new.self) c.ready.new.pool u) (sym c.put_record-reply.ensures.tail)
+    (valid_accepted (g.D.Disk.past c.ready.new.disk) e.config table c.ready.new.pool t command c.args.seat c.args.number c.requires.producer (g.D.Disk.moment c.ready.new.disk) (lists c.ready.new.chronicle) (lists c.step-2.new.self) (room c.ready.new.chronicle) (room c.step-2.new.self) e.clock
+    (state_of c.apply-given.new.self) c.apply-given.result rec by_numbers valid (refusals_are table [] steps valid.sound.parts.follows command) none numbered (c.apply-given.ensures.journal [] steps valid.sound.parts.follows) values fits empty
+    (λ x accepted. c.apply-given.ensures.follows [] steps x valid.sound.parts.follows accepted) noted (omega (arith, two, c.ready.ensures.room, c.step-2.ensures.receipts)))
+
+pub returns-clause-noted : goal.returns-clause-noted
+returns-clause-noted g c =
+    let e = c.self.inside in
+    let lists = g.C.Chronicle.lists in
+    let room = g.C.Chronicle.receipt_room in
+    let past = g.D.Disk.past e.disk in
+    let moment = g.D.Disk.moment e.disk in
+    let table = state_of c.room_for.new.table in
+    subst (λ v. Notes c.args.seat c.args.number c.args.command (Ok c.put_record-reply.result.0) c.put_record-reply.new.tail.file.id (end_of_tail c.put_record-reply.new.tail) (receipted (nat_lt v.durable c.put_record-reply.new.tail.durable) v.appended (counted (counted (g.D.Disk.moment v.disk))) (lists v.chronicle)) (lists c.step-2.new.self)) c.self.view_is
+    (noted_accepted c.args.seat c.args.number c.args.command c.put_record-reply.result.0 c.put_record-reply.result.1 e.config (state_of e.table) e.pool e.tail c.ready.new.tail c.put_record-reply.new.tail c.numbered-rec.result c.passes-moves.result (flushes e.tail.buffer.capacity (length e.tail.buffer.bytes) c.args.command) e.clock (counted (counted moment)) (lists e.chronicle) (lists c.room_for.new.chronicle) (lists c.ready.new.chronicle) (lists c.step-2.new.self)
+    c.self.invariant.sound.parts c.room_for.ensures.lists c.in_default-ready.ensures.ok c.put_record-reply.ensures.tail c.put_record-reply.ensures.placed c.in_default-ready.ensures.receipt c.step-2.ensures.noted)
 
 pub returns-clause-reply : goal.returns-clause-reply
 returns-clause-reply g c =
     let e = c.self.inside in
-    let rec = c.in-Ok.rec in
-    let all = written_durable (g.D.Disk.past e.disk) (g.C.Chronicle.lists e.chronicle) (g.C.Chronicle.receipt_room e.chronicle) e.config (state_of e.table) e.tail c.self.invariant.sound in
-    let said = c.put_record-reply.ensures.reply ∙ ap (λ (t : Tail). reply_of t c.apply-given.result rec) c.in_default-ready.ensures.ok in
-    subst (IsReply c.args.self.now.appended c.args.command) (sym said) (reply_is (state_of c.room_for.new.table) c.args.command c.apply-given.result rec e.tail c.args.self.now.appended c.apply-given.ensures.number c.in-Ok.ensures.length all (ap (λ v. v.appended) c.self.view_is))
+    let lists = g.C.Chronicle.lists in
+    let room = g.C.Chronicle.receipt_room in
+    let past = g.D.Disk.past e.disk in
+    let moment = g.D.Disk.moment e.disk in
+    let table = state_of c.room_for.new.table in
+    let ends : e.tail.end + length c.bytes.result.now ≡ end_of_tail e.tail = ap (λ (l : List ℕ). e.tail.end + length l) c.bytes.ensures in
+    let moves : c.passes-moves.result ≡ passes e.config.file_size (end_of_tail e.tail) (record_len c.args.command) =
+    c.passes-moves.ensures ∙ ap (λ (n : ℕ). passes e.config.file_size n (option_map len_of c.in-Ok.rec)) ends ∙ ap (passes e.config.file_size (end_of_tail e.tail)) c.in-Ok.ensures.length in
+    let rec = c.numbered-rec.result in
+    let long : option_map len_of rec ≡ record_len c.args.command = c.numbered-rec.ensures.length ∙ c.in-Ok.ensures.length in
+    let all = written_durable e.config (state_of e.table) e.pool e.tail c.self.invariant.sound.parts in
+    let said = c.put_record-reply.ensures.reply ∙ ap (λ (t : Tail). reply_of t c.apply-given.result rec) (c.in_default-ready.ensures.ok ∙ ap (λ (m : Bool). readied m (flushes e.tail.buffer.capacity (length e.tail.buffer.bytes) c.args.command) e.pool e.tail) moves) in
+    subst (IsReply c.args.self.now.appended c.args.command) (sym said) (reply_is table c.args.command c.apply-given.result rec e.pool e.tail e.config.file_size (end_of_tail e.tail) c.args.self.now.appended c.apply-given.ensures.number long all (ap (λ v. v.appended) c.self.view_is))
 
 pub returns-clause-ok : goal.returns-clause-ok
 returns-clause-ok g c =
     let e = c.self.inside in
-    let rec = c.in-Ok.rec in
-    let all = written_durable (g.D.Disk.past e.disk) (g.C.Chronicle.lists e.chronicle) (g.C.Chronicle.receipt_room e.chronicle) e.config (state_of e.table) e.tail c.self.invariant.sound in
-    seen_accepted c.args.command c.ready.new.disk c.step-2.new.self e.config e.clock e.closed c.args.self.now e.disk e.chronicle rec e.tail c.put_record-reply.new.tail c.self.view_is
-    (c.put_record-reply.ensures.tail ∙ ap (λ (t : Tail). with_put e.clock rec t) c.in_default-ready.ensures.ok) c.self.invariant.sound.capacity c.in-Ok.ensures.length all
+    let lists = g.C.Chronicle.lists in
+    let room = g.C.Chronicle.receipt_room in
+    let past = g.D.Disk.past e.disk in
+    let moment = g.D.Disk.moment e.disk in
+    let table = state_of c.room_for.new.table in
+    let ends : e.tail.end + length c.bytes.result.now ≡ end_of_tail e.tail = ap (λ (l : List ℕ). e.tail.end + length l) c.bytes.ensures in
+    let moves : c.passes-moves.result ≡ passes e.config.file_size (end_of_tail e.tail) (record_len c.args.command) =
+    c.passes-moves.ensures ∙ ap (λ (n : ℕ). passes e.config.file_size n (option_map len_of c.in-Ok.rec)) ends ∙ ap (passes e.config.file_size (end_of_tail e.tail)) c.in-Ok.ensures.length in
+    let rec = c.numbered-rec.result in
+    let long : option_map len_of rec ≡ record_len c.args.command = c.numbered-rec.ensures.length ∙ c.in-Ok.ensures.length in
+    let all = written_durable e.config (state_of e.table) e.pool e.tail c.self.invariant.sound.parts in
+    let pool : c.ready.new.pool ≡ pool_readied (passes e.config.file_size (end_of_tail e.tail) (record_len c.args.command)) e.pool = c.in_default-ready.ensures.pool ∙ ap (λ (m : Bool). pool_readied m e.pool) moves in
+    ap (λ (p : PoolOf). seen c.ready.new.disk c.step-2.new.self e.config p c.put_record-reply.new.tail e.clock e.closed) pool
+    ∙ seen_accepted c.args.command c.ready.new.disk c.step-2.new.self e.config e.clock e.closed c.args.self.now e.disk e.chronicle rec e.pool e.tail c.put_record-reply.new.tail c.self.view_is
+    (c.put_record-reply.ensures.tail ∙ ap (λ (t : Tail). with_put e.clock rec t) (c.in_default-ready.ensures.ok ∙ ap (λ (m : Bool). readied m (flushes e.tail.buffer.capacity (length e.tail.buffer.bytes) c.args.command) e.pool e.tail) moves)) c.self.invariant.sound.parts.capacity long all
+
+pub returns-clause-numbers : goal.returns-clause-numbers
+returns-clause-numbers g c =
+    let e = c.self.inside in
+    let lists = g.C.Chronicle.lists in
+    let room = g.C.Chronicle.receipt_room in
+    let past = g.D.Disk.past e.disk in
+    let moment = g.D.Disk.moment e.disk in
+    let table = state_of c.room_for.new.table in
+    let ends : e.tail.end + length c.bytes.result.now ≡ end_of_tail e.tail = ap (λ (l : List ℕ). e.tail.end + length l) c.bytes.ensures in
+    let moves : c.passes-moves.result ≡ passes e.config.file_size (end_of_tail e.tail) (record_len c.args.command) =
+    c.passes-moves.ensures ∙ ap (λ (n : ℕ). passes e.config.file_size n (option_map len_of c.in-Ok.rec)) ends ∙ ap (passes e.config.file_size (end_of_tail e.tail)) c.in-Ok.ensures.length in
+    let by_numbers = spent c.passes-moves.result e.pool.highest (ids_of e.pool.prepared) in
+    let none : refused e.config (refusal_in table c.args.command) by_numbers c.args.command ≡ None = sym c.in_default-refusal_of.ensures.first in
+    λ prepared.
+    let so = both_true (passes e.config.file_size (end_of_tail e.tail) (record_len c.args.command)) (is_nil (ids_of e.pool.prepared)) (ap (λ v. prepares v c.args.command) c.self.view_is ∙ prepared) in
+    subst (λ (n : ℕ). n < 2 ^ 31 - 1) (ap (λ v. v.highest) c.self.view_is)
+    (numbers_left e.config (refusal_in table c.args.command) c.passes-moves.result e.pool.highest (ids_of e.pool.prepared) c.args.command none (moves ∙ so.0) (nil_is (ids_of e.pool.prepared) so.1))
+
+pub returns-clause-idle : goal.returns-clause-idle
+returns-clause-idle g c =
+    let e = c.self.inside in
+    let lists = g.C.Chronicle.lists in
+    let room = g.C.Chronicle.receipt_room in
+    let past = g.D.Disk.past e.disk in
+    let moment = g.D.Disk.moment e.disk in
+    let table = state_of c.room_for.new.table in
+    let ends : e.tail.end + length c.bytes.result.now ≡ end_of_tail e.tail = ap (λ (l : List ℕ). e.tail.end + length l) c.bytes.ensures in
+    let moves : c.passes-moves.result ≡ passes e.config.file_size (end_of_tail e.tail) (record_len c.args.command) =
+    c.passes-moves.ensures ∙ ap (λ (n : ℕ). passes e.config.file_size n (option_map len_of c.in-Ok.rec)) ends ∙ ap (passes e.config.file_size (end_of_tail e.tail)) c.in-Ok.ensures.length in
+    let unclosed : c.args.self.now.closed ≡ None = sym (ap (λ v. v.closed) c.self.view_is) ∙ c.in_default.is in
+    ⊎_elim
+    (λ none.
+    let so = asks_nothing c.args.self.now c.args.command e.config.file_size (end_of_tail e.tail) e.tail.buffer.capacity (length e.tail.buffer.bytes) e.tail.buffer.since e.pool.prepared (sym (ap (λ v. v.config.file_size) c.self.view_is)) (sym (ap (λ v. v.end) c.self.view_is)) (sym (ap (λ v. v.config.buffer_size) c.self.view_is) ∙ sym c.self.invariant.sound.parts.capacity) (sym (ap (λ v. v.waiting) c.self.view_is)) (sym (ap (λ v. v.since) c.self.view_is)) (sym (ap (λ v. v.free) c.self.view_is)) none in
+    c.ready.ensures.idle
+    (ap (λ (m : Bool). (m || flushes e.tail.buffer.capacity (length e.tail.buffer.bytes) c.args.command) && is_some e.tail.buffer.since) moves ∙ so.0)
+    (ap (λ (m : Bool). m && is_nil e.pool.prepared) moves ∙ so.1)
+    ∙ ap (λ v. v.disk) c.self.view_is)
+    (λ shut. absurd (not_closed c.args.self.now.closed unclosed shut))
 
 pub returns-clause-chronicle : goal.returns-clause-chronicle
 returns-clause-chronicle g c =
     let e = c.self.inside in
-    valid_chronicle (g.D.Disk.past c.ready.new.disk) (g.D.Disk.moment c.ready.new.disk) (g.C.Chronicle.lists c.step-2.new.self) (g.C.Chronicle.receipt_room c.step-2.new.self) e.config (state_of c.apply-given.new.self) c.put_record-reply.new.tail (invariant_of-self-2 g c)
+    valid_chronicle (g.D.Disk.past c.ready.new.disk) (g.D.Disk.moment c.ready.new.disk) (g.C.Chronicle.lists c.step-2.new.self) (g.C.Chronicle.receipt_room c.step-2.new.self) e.config (state_of c.apply-given.new.self) c.ready.new.pool c.put_record-reply.new.tail (invariant_of-self-2 g c)
+
+pub returns-in-Err-ready-clause-spared : goal.returns-in-Err-ready-clause-spared
+returns-in-Err-ready-clause-spared g c prepared top =
+    let e = c.self.inside in
+    let table = state_of c.room_for.new.table in
+    let ends : e.tail.end + length c.bytes.result.now ≡ end_of_tail e.tail = ap (λ (l : List ℕ). e.tail.end + length l) c.bytes.ensures in
+    let moves : c.passes-moves.result ≡ passes e.config.file_size (end_of_tail e.tail) (record_len c.args.command) =
+    c.passes-moves.ensures ∙ ap (λ (n : ℕ). passes e.config.file_size n (option_map len_of c.in-Ok.rec)) ends ∙ ap (passes e.config.file_size (end_of_tail e.tail)) c.in-Ok.ensures.length in
+    let by_numbers = spent c.passes-moves.result e.pool.highest (ids_of e.pool.prepared) in
+    let none : refused e.config (refusal_in table c.args.command) by_numbers c.args.command ≡ None = sym c.in_default-refusal_of.ensures.first in
+    let so = both_true (passes e.config.file_size (end_of_tail e.tail) (record_len c.args.command)) (is_nil (ids_of e.pool.prepared)) (ap (λ v. prepares v c.args.command) c.self.view_is ∙ prepared) in
+    let left = numbers_left e.config (refusal_in table c.args.command) c.passes-moves.result e.pool.highest (ids_of e.pool.prepared) c.args.command none (moves ∙ so.0) (nil_is (ids_of e.pool.prepared) so.1) in
+    absurd (omega (arith, left, ap (λ v. v.highest) c.self.view_is, top))
+
+pub returns-in-Err-ready-clause-calls : goal.returns-in-Err-ready-clause-calls
+returns-in-Err-ready-clause-calls g c =
+    let e = c.self.inside in
+    let table = state_of c.room_for.new.table in
+    let ends : e.tail.end + length c.bytes.result.now ≡ end_of_tail e.tail = ap (λ (l : List ℕ). e.tail.end + length l) c.bytes.ensures in
+    let moves : c.passes-moves.result ≡ passes e.config.file_size (end_of_tail e.tail) (record_len c.args.command) =
+    c.passes-moves.ensures ∙ ap (λ (n : ℕ). passes e.config.file_size n (option_map len_of c.in-Ok.rec)) ends ∙ ap (passes e.config.file_size (end_of_tail e.tail)) c.in-Ok.ensures.length in
+    let asks : (c.passes-moves.result && is_nil e.pool.prepared) ≡ prepares c.args.self.now c.args.command =
+    ap (λ (m : Bool). m && is_nil e.pool.prepared) moves ∙ ap (λ (k : Bool). passes e.config.file_size (end_of_tail e.tail) (record_len c.args.command) && k) (sym (is_nil_ids e.pool.prepared)) ∙ ap (λ v. prepares v c.args.command) c.self.view_is in
+    subst (λ (b : Bool). g.D.Disk.moment c.ready.new.disk ≤ g.D.Disk.moment c.args.self.now.disk + cond b 6 2) asks
+    (subst (λ v. g.D.Disk.moment c.ready.new.disk ≤ g.D.Disk.moment v.disk + cond (c.passes-moves.result && is_nil e.pool.prepared) 6 2) c.self.view_is c.ready.ensures.calls)
+
+pub returns-clause-spared : goal.returns-clause-spared
+returns-clause-spared g c prepared top =
+    let e = c.self.inside in
+    let table = state_of c.room_for.new.table in
+    let ends : e.tail.end + length c.bytes.result.now ≡ end_of_tail e.tail = ap (λ (l : List ℕ). e.tail.end + length l) c.bytes.ensures in
+    let moves : c.passes-moves.result ≡ passes e.config.file_size (end_of_tail e.tail) (record_len c.args.command) =
+    c.passes-moves.ensures ∙ ap (λ (n : ℕ). passes e.config.file_size n (option_map len_of c.in-Ok.rec)) ends ∙ ap (passes e.config.file_size (end_of_tail e.tail)) c.in-Ok.ensures.length in
+    let by_numbers = spent c.passes-moves.result e.pool.highest (ids_of e.pool.prepared) in
+    let none : refused e.config (refusal_in table c.args.command) by_numbers c.args.command ≡ None = sym c.in_default-refusal_of.ensures.first in
+    let so = both_true (passes e.config.file_size (end_of_tail e.tail) (record_len c.args.command)) (is_nil (ids_of e.pool.prepared)) (ap (λ v. prepares v c.args.command) c.self.view_is ∙ prepared) in
+    let left = numbers_left e.config (refusal_in table c.args.command) c.passes-moves.result e.pool.highest (ids_of e.pool.prepared) c.args.command none (moves ∙ so.0) (nil_is (ids_of e.pool.prepared) so.1) in
+    absurd (omega (arith, left, ap (λ v. v.highest) c.self.view_is, top))
+
+pub returns-clause-calls : goal.returns-clause-calls
+returns-clause-calls g c =
+    let e = c.self.inside in
+    let table = state_of c.room_for.new.table in
+    let ends : e.tail.end + length c.bytes.result.now ≡ end_of_tail e.tail = ap (λ (l : List ℕ). e.tail.end + length l) c.bytes.ensures in
+    let moves : c.passes-moves.result ≡ passes e.config.file_size (end_of_tail e.tail) (record_len c.args.command) =
+    c.passes-moves.ensures ∙ ap (λ (n : ℕ). passes e.config.file_size n (option_map len_of c.in-Ok.rec)) ends ∙ ap (passes e.config.file_size (end_of_tail e.tail)) c.in-Ok.ensures.length in
+    let asks : (c.passes-moves.result && is_nil e.pool.prepared) ≡ prepares c.args.self.now c.args.command =
+    ap (λ (m : Bool). m && is_nil e.pool.prepared) moves ∙ ap (λ (k : Bool). passes e.config.file_size (end_of_tail e.tail) (record_len c.args.command) && k) (sym (is_nil_ids e.pool.prepared)) ∙ ap (λ v. prepares v c.args.command) c.self.view_is in
+    subst (λ (b : Bool). g.D.Disk.moment c.ready.new.disk ≤ g.D.Disk.moment c.args.self.now.disk + cond b 6 2) asks
+    (subst (λ v. g.D.Disk.moment c.ready.new.disk ≤ g.D.Disk.moment v.disk + cond (c.passes-moves.result && is_nil e.pool.prepared) 6 2) c.self.view_is c.ready.ensures.calls)

@@ -1,5 +1,5 @@
 use Rattle.std.proofs.Common.{ap, subst, ◌∙◌}
-use Rattle.std.specs.Prelude.{IfSome, ◌==◌}
+use Rattle.std.specs.Prelude.{IfSome}
 use Rattle.amq_tx.specs.Tables.{state_of}
 use Rattle.amq_engine.specs.Engine.{IsChronicle}
 use Rattle.amq_engine.proofs.Sound.{sound_there, sound_within}
@@ -11,46 +11,46 @@ pub returns-in-Some-clause-chronicle : goal.returns-in-Some-clause-chronicle
 returns-in-Some-clause-chronicle g c =
     let e = c.self.inside in
     subst (λ v. IfSome (g.C.Chronicle.lists v.chronicle) (IsChronicle (g.D.Disk.past v.disk) (g.D.Disk.moment v.disk) v.config v.appended v.durable)) c.self.view_is
-    (valid_chronicle (g.D.Disk.past e.disk) (g.D.Disk.moment e.disk) (g.C.Chronicle.lists e.chronicle) (g.C.Chronicle.receipt_room e.chronicle) e.config (state_of e.table) e.tail c.self.invariant)
+    (valid_chronicle (g.D.Disk.past e.disk) (g.D.Disk.moment e.disk) (g.C.Chronicle.lists e.chronicle) (g.C.Chronicle.receipt_room e.chronicle) e.config (state_of e.table) e.pool e.tail c.self.invariant)
 
 pub write_out-requires-clause-there : goal.write_out-requires-clause-there
 write_out-requires-clause-there g c =
     let e = c.self.inside in
-    sound_there (g.D.Disk.past e.disk) (g.C.Chronicle.lists e.chronicle) (g.C.Chronicle.receipt_room e.chronicle) e.config (state_of e.table) e.tail c.self.invariant.sound
+    sound_there (g.D.Disk.past e.disk) (g.C.Chronicle.lists e.chronicle) (g.C.Chronicle.receipt_room e.chronicle) e.config (state_of e.table) e.pool e.tail c.self.invariant.sound
 
 pub write_out-requires-clause-within : goal.write_out-requires-clause-within
 write_out-requires-clause-within g c =
     let e = c.self.inside in
-    sound_within (g.D.Disk.past e.disk) (g.C.Chronicle.lists e.chronicle) (g.C.Chronicle.receipt_room e.chronicle) e.config (state_of e.table) e.tail c.self.invariant.sound
+    sound_within (g.D.Disk.past e.disk) (g.C.Chronicle.lists e.chronicle) (g.C.Chronicle.receipt_room e.chronicle) e.config (state_of e.table) e.pool e.tail c.self.invariant.sound
 
 pub invariant_of-self : goal.invariant_of-self
 invariant_of-self g c =
     let e = c.self.inside in
-    c.write_out.ensures.valid e.config (state_of e.table) c.self.invariant
+    c.write_out.ensures.valid e.config (state_of e.table) e.pool c.self.invariant
 
 pub invariant_of-self-in-Err : goal.invariant_of-self-in-Err
 invariant_of-self-in-Err g c =
     let e = c.self.inside in
-    c.write_out.ensures.valid e.config (state_of e.table) c.self.invariant
+    c.write_out.ensures.valid e.config (state_of e.table) e.pool c.self.invariant
 
 pub returns-in-Ok-clause-count : goal.returns-in-Ok-clause-count
 returns-in-Ok-clause-count g c =
     let e = c.self.inside in
-    let all = written_durable (g.D.Disk.past e.disk) (g.C.Chronicle.lists e.chronicle) (g.C.Chronicle.receipt_room e.chronicle) e.config (state_of e.table) e.tail c.self.invariant.sound in
+    let all = written_durable e.config (state_of e.table) e.pool e.tail c.self.invariant.sound.parts in
     ap (λ t. t.durable) c.in-Ok.ensures.ok ∙ all ∙ ap (λ v. v.appended) c.self.view_is
 
 pub returns-in-Ok-clause-ok : goal.returns-in-Ok-clause-ok
 returns-in-Ok-clause-ok g c =
     let e = c.self.inside in
-    let all = written_durable (g.D.Disk.past e.disk) (g.C.Chronicle.lists e.chronicle) (g.C.Chronicle.receipt_room e.chronicle) e.config (state_of e.table) e.tail c.self.invariant.sound in
-    seen_flushed c.args.self.now e.disk c.write_out.new.disk e.chronicle c.write_out.new.chronicle e.config e.tail c.write_out.new.tail e.clock e.closed c.self.view_is c.in-Ok.ensures.ok all
+    let all = written_durable e.config (state_of e.table) e.pool e.tail c.self.invariant.sound.parts in
+    seen_flushed c.args.self.now e.disk c.write_out.new.disk e.chronicle c.write_out.new.chronicle e.config e.pool e.tail c.write_out.new.tail e.clock e.closed c.self.view_is c.in-Ok.ensures.ok all
 
 pub returns-in-Ok-clause-chronicle : goal.returns-in-Ok-clause-chronicle
 returns-in-Ok-clause-chronicle g c =
     let e = c.self.inside in
-    valid_chronicle (g.D.Disk.past c.write_out.new.disk) (g.D.Disk.moment c.write_out.new.disk) (g.C.Chronicle.lists c.write_out.new.chronicle) (g.C.Chronicle.receipt_room c.write_out.new.chronicle) e.config (state_of e.table) c.write_out.new.tail (invariant_of-self g c)
+    valid_chronicle (g.D.Disk.past c.write_out.new.disk) (g.D.Disk.moment c.write_out.new.disk) (g.C.Chronicle.lists c.write_out.new.chronicle) (g.C.Chronicle.receipt_room c.write_out.new.chronicle) e.config (state_of e.table) e.pool c.write_out.new.tail (invariant_of-self g c)
 
 pub returns-in-Err-clause-chronicle : goal.returns-in-Err-clause-chronicle
 returns-in-Err-clause-chronicle g c =
     let e = c.self.inside in
-    valid_chronicle (g.D.Disk.past c.write_out.new.disk) (g.D.Disk.moment c.write_out.new.disk) (g.C.Chronicle.lists c.write_out.new.chronicle) (g.C.Chronicle.receipt_room c.write_out.new.chronicle) e.config (state_of e.table) c.write_out.new.tail (invariant_of-self-in-Err g c)
+    valid_chronicle (g.D.Disk.past c.write_out.new.disk) (g.D.Disk.moment c.write_out.new.disk) (g.C.Chronicle.lists c.write_out.new.chronicle) (g.C.Chronicle.receipt_room c.write_out.new.chronicle) e.config (state_of e.table) e.pool c.write_out.new.tail (invariant_of-self-in-Err g c)

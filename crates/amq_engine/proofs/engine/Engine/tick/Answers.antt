@@ -1,5 +1,5 @@
 use Rattle.std.proofs.Common.{◌≡◌, subst}
-use Rattle.std.specs.Prelude.{IfSome, ◌==◌, ◌↔◌, Some, Err}
+use Rattle.std.specs.Prelude.{IfSome, ◌↔◌, Some, Err}
 use Rattle.amq_tx.specs.Tables.{state_of}
 use Rattle.amq_model.specs.declared.refusal.Refusal.TheVariants.{Closed}
 use Rattle.amq_engine.specs.Engine.{IsChronicle}
@@ -10,7 +10,7 @@ pub returns-in-Some-clause-chronicle : goal.returns-in-Some-clause-chronicle
 returns-in-Some-clause-chronicle g c =
     let e = c.self.inside in
     subst (λ v. IfSome (g.C.Chronicle.lists v.chronicle) (IsChronicle (g.D.Disk.past v.disk) (g.D.Disk.moment v.disk) v.config v.appended v.durable)) c.self.view_is
-    (valid_chronicle (g.D.Disk.past e.disk) (g.D.Disk.moment e.disk) (g.C.Chronicle.lists e.chronicle) (g.C.Chronicle.receipt_room e.chronicle) e.config (state_of e.table) e.tail c.self.invariant)
+    (valid_chronicle (g.D.Disk.past e.disk) (g.D.Disk.moment e.disk) (g.C.Chronicle.lists e.chronicle) (g.C.Chronicle.receipt_room e.chronicle) e.config (state_of e.table) e.pool e.tail c.self.invariant)
 
 pub returns-then-due-clause-closed : goal.returns-then-due-clause-closed
 returns-then-due-clause-closed g c call = subst (λ v. (c.flush.result ≡ Err (Closed call)) ↔ (v.closed ≡ Some call)) c.self.view_is (c.flush.ensures.closed call)
@@ -18,4 +18,4 @@ returns-then-due-clause-closed g c call = subst (λ v. (c.flush.result ≡ Err (
 pub returns-clause-chronicle : goal.returns-clause-chronicle
 returns-clause-chronicle g c =
     let e = c.self.inside in
-    valid_chronicle (g.D.Disk.past e.disk) (g.D.Disk.moment e.disk) (g.C.Chronicle.lists e.chronicle) (g.C.Chronicle.receipt_room e.chronicle) e.config (state_of e.table) e.tail c.self.invariant
+    valid_chronicle (g.D.Disk.past e.disk) (g.D.Disk.moment e.disk) (g.C.Chronicle.lists e.chronicle) (g.C.Chronicle.receipt_room e.chronicle) e.config (state_of e.table) e.pool e.tail c.self.invariant

@@ -5,8 +5,8 @@ use Rattle.std.specs.Option.{is_some}
 use Rattle.std.specs.Map.{lookup}
 use Rattle.amq_model.specs.declared.state.EntryEnd.{EntryEnd}
 use Rattle.amq_model.specs.declared.state.OpenTx.{OpenTx}
-use Rattle.amq_state.specs.Ids.{live_numbers}
-use Rattle.amq_state.specs.Open.{open_txs}
+use Rattle.amq_model.specs.Ids.{live_numbers}
+use Rattle.amq_model.specs.Open.{open_txs}
 use Rattle.amq_tx.specs.State.{TxState}
 use Rattle.amq_tx.specs.Follows.{Follows}
 use Rattle.amq_tx.proofs.States.{same_state}

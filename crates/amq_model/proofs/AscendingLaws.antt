@@ -1,15 +1,24 @@
 -- Numbers, each once, ascending: their order, which they are, and that this decides the list.
-use Rattle.std.proofs.Common.{◌≡◌, ℕ, ◌<◌, ◌≤◌, Bool, true, false, cond, ◌||◌, eqb, ltb, List, [], ◌∷◌, Less, refl, sym, ap, ◌∙◌, arith}
+use Rattle.std.proofs.Common.{◌≡◌, ℕ, ◌<◌, ◌≤◌, Bool, true, false, cond, ◌||◌, eqb, ltb, List, [], ◌∷◌, Less, Equal, Greater, refl, sym, ap, ◌∙◌, arith}
+use Rattle.std.specs.Prelude.{nat_lt}
 use Rattle.std.specs.List.{list_any, AllByRecursion}
 use Rattle.std.specs.List.Sorted.{IsStrictlySortedBy}
-use Rattle.std.specs.Ordering.{nat_cmp}
+use Rattle.std.specs.Ordering.{nat_cmp, is_eq}
 use Rattle.std.specs.BTreeMap.{is_at}
 use Rattle.std.specs.BTreeSet.{BTreeSet}
 use Rattle.std.proofs.lemmas.Bool.{ltb-true, ltb-false, lt-ltb, eqb-true, eqb-false}
 use Rattle.std.proofs.lemmas.Cmp.{nat_cmp_total}
 use Rattle.std.proofs.lemmas.Map.Lookups.{btree_set_from_contains, exact_unsigned}
 use Rattle.amq_model.specs.Effect.{among, ascending}
-use Rattle.amq_state.proofs.TableLaws.{is_here}
+
+-- a query of a number finds that number alone
+pub is_here : (k q : ℕ) → is_at (nat_cmp k) q ≡ eqb k q
+is_here k q = by (nat_lt k q) (eqb k q) refl refl where
+  by : (less same : Bool) → nat_lt k q ≡ less → eqb k q ≡ same → is_eq (cond less Less (cond same Equal Greater)) ≡ same
+  by true true l s = absurd (omega (arith, ltb-true k q l, eqb-true k q s))
+  by true false l s = refl
+  by false true l s = refl
+  by false false l s = refl
 
 less : (x y : ℕ) → x < y → nat_cmp x y ≡ Less
 less x y h = rw (lt-ltb x y h) refl

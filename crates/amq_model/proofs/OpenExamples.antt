@@ -6,7 +6,7 @@ use Rattle.amq_model.specs.declared.record.Placed.{Placed}
 use Rattle.amq_model.specs.declared.state.EntryEnd.{EntryEnd}
 use Rattle.amq_model.specs.declared.state.EntryEnd.TheVariants.{Put, Gone}
 use Rattle.amq_model.specs.declared.state.OpenTx.{OpenTx}
-use Rattle.amq_state.specs.Open.{open_txs, highest_of}
+use Rattle.amq_model.specs.Open.{open_txs, highest_of}
 
 abbrev at : ℕ → Record → Placed
 at place rec = record { file = 1; place = place; compact = 0; rec = rec }

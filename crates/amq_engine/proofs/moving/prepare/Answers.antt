@@ -1,0 +1,26 @@
+use Rattle.std.proofs.Common.{sym, subst}
+use Rattle.amq_pool.specs.Pools.{PoolOf, IsPool}
+use Rattle.amq_engine.specs.Engine.{IsValid}
+use Rattle.amq_engine.proofs.Going.{valid_prepared, valid_unprepared}
+use Rattle.amq_engine.proofs.moving.prepare.Goals as goal
+
+pub returns-in-Ok-clause-valid : goal.returns-in-Ok-clause-valid
+returns-in-Ok-clause-valid g c lists room config table tail v =
+    let past = g.D.Disk.past in
+    let moment = g.D.Disk.moment in
+    subst (λ (p : PoolOf). IsValid (past c.prepare_step.new.disk) (moment c.prepare_step.new.disk) lists room config table p tail) (sym c.in-Ok.ensures.prepared)
+    (valid_prepared (past c.args.disk.now) (past c.prepare_step.new.disk) (moment c.args.disk.now) (moment c.prepare_step.new.disk) lists room config table c.args.pool.now tail c.requires.number c.prepare_step.ensures.later (subst IsPool c.in-Ok.ensures.prepared c.prepare_step.ensures.is) c.in-Ok.ensures.ok v)
+
+pub returns-in-Err-Disk-clause-valid : goal.returns-in-Err-Disk-clause-valid
+returns-in-Err-Disk-clause-valid g c lists room config table tail v =
+    let past = g.D.Disk.past in
+    let moment = g.D.Disk.moment in
+    subst (λ (p : PoolOf). IsValid (past c.prepare_step.new.disk) (moment c.prepare_step.new.disk) lists room config table p tail) (sym c.in-Err-Disk.ensures.unchanged)
+    (valid_unprepared (past c.args.disk.now) (past c.prepare_step.new.disk) (moment c.args.disk.now) (moment c.prepare_step.new.disk) lists room config table c.args.pool.now tail c.requires.number c.prepare_step.ensures.later c.prepare_step.ensures.crash v)
+
+pub returns-in-Err-NoMemory-clause-valid : goal.returns-in-Err-NoMemory-clause-valid
+returns-in-Err-NoMemory-clause-valid g c lists room config table tail v =
+    let past = g.D.Disk.past in
+    let moment = g.D.Disk.moment in
+    subst (λ (p : PoolOf). IsValid (past c.prepare_step.new.disk) (moment c.prepare_step.new.disk) lists room config table p tail) (sym c.in-Err-NoMemory.ensures.unchanged)
+    (valid_unprepared (past c.args.disk.now) (past c.prepare_step.new.disk) (moment c.args.disk.now) (moment c.prepare_step.new.disk) lists room config table c.args.pool.now tail c.requires.number c.prepare_step.ensures.later c.prepare_step.ensures.crash v)

@@ -1,0 +1,163 @@
+//! Going on to further files.
+ghost use Rattle.std.specs.Prelude.{◌≡◌, ◌⊎◌, ◌+◌, ◌-◌, ◌^◌, ◌<◌, ◌≤◌, ℕ, Bool, true, false, ◌&&◌, ◌||◌, not, is_ok, is_some, if◌then◌else◌, [], length, Option, None, option_map, OnOk, OnErr};
+ghost use Rattle.amq_model.specs.declared.config.Config.{Config};
+ghost use Rattle.amq_model.specs.RecordAt.{len_of};
+ghost use Rattle.amq_model.specs.Calls.{counted};
+ghost use Rattle.amq_model.specs.Leaves.{Told, IsThere, IsWithin};
+ghost use Rattle.amq_io.specs.Faults.{HasFault};
+ghost use Rattle.amq_tx.specs.State.{TxState};
+ghost use Rattle.amq_pool.specs.Pools.{with_next};
+ghost use Rattle.amq_engine.specs.declared.tail.Tail.{Tail};
+ghost use Rattle.amq_engine.specs.Lists.{Lists};
+ghost use Rattle.amq_engine.specs.Engine.{IsValid, end_of_tail, passes, flushes, record_len, written_out, next_file, without_next, gone_on, readied, pool_readied, receipted, Waits, Wrote, with_files, is_nil};
+
+use crate::chronicle::Chronicle;
+use crate::tail::{Tail, write_out};
+use amq_buffer::TimedBuffer;
+use amq_io::{Disk, DiskFault};
+use amq_model::{Command, Record};
+use amq_pool::{Pool, PoolFault};
+use amq_record::encoded_len;
+
+/// Where the first record of a file stands.
+pub const FIRST_PLACE: u64 = 16;
+
+/// The greatest number of a file.
+pub const MOST_NUMBER: u64 = 0x7fff_ffff;
+
+/// Whether a record of this length, put behind the last append, would end behind the end of the file.
+pub fn passes(file_size: u64, end: u64, rec: &Option<Record>) -> bool
+    requires within { end ≤ file_size }
+    ensures { result ≡ passes file_size end (option_map len_of rec.now) }
+{
+    match rec {
+        Some(rec) => file_size - end < encoded_len(rec),
+        None => false,
+    }
+}
+
+/// Prepares one file, in four disk calls.
+pub fn prepare<D: Disk>(disk: &mut D, pool: &mut Pool) -> Result<(), DiskFault>
+    requires number { pool.old.highest < 2 ^ 31 - 1 }
+    ensures valid { (lists : Option Lists) (room : ℕ) (config : Config) (table : TxState) (tail : Tail)
+        → IsValid (D.past disk.old) (D.moment disk.old) lists room config table pool.old tail
+        → IsValid (D.past disk.new) (D.moment disk.new) lists room config table pool.new tail }
+    ensures prepared { OnOk result (pool.new ≡ with_next pool.old) }
+    ensures unchanged { OnErr result (pool.new ≡ pool.old) }
+    ensures cause { HasFault result (D.faults disk.old) (D.faults disk.new) }
+    ensures calls { D.moment disk.new ≤ D.moment disk.old + 4 }
+    ensures later { D.moment disk.old ≤ D.moment disk.new }
+{
+    match pool.prepare_step(disk) {
+        Ok(()) => Ok(()),
+        Err(PoolFault::Disk { call }) => Err(DiskFault::Disk(call)),
+        Err(PoolFault::NoMemory) => Err(DiskFault::NoMemory),
+        Err(PoolFault::FileIdsSpent { .. }) => unreachable!(),
+    }
+}
+
+/// Flushes, and goes on to the prepared file with the least id, or to one that is prepared now.
+pub fn go_on<D: Disk, C: Chronicle>(
+    disk: &mut D,
+    chronicle: &mut C,
+    pool: &mut Pool,
+    tail: &mut Tail,
+) -> Result<(), DiskFault>
+    requires there { Told (D.past disk.old) (IsThere tail.old.file.name) }
+    requires within { Told (D.past disk.old) (IsWithin tail.old.file.name (end_of_tail tail.old)) }
+    requires size { end_of_tail tail.old ≤ 268435456 }
+    requires room { (tail.old.buffer.bytes ≡ [] → ⊥) → 1 ≤ C.receipt_room chronicle.old }
+    requires number { pool.old.prepared ≡ [] → pool.old.highest < 2 ^ 31 - 1 }
+    ensures valid { (config : Config) (table : TxState)
+        → IsValid (D.past disk.old) (D.moment disk.old) (C.lists chronicle.old) (C.receipt_room chronicle.old) config table pool.old tail.old
+        → IsValid (D.past disk.new) (D.moment disk.new) (C.lists chronicle.new) (C.receipt_room chronicle.new) config table pool.new tail.new }
+    ensures ok { OnOk result (tail.new ≡ gone_on (next_file pool.old) (written_out tail.old)) }
+    ensures pool { OnOk result (pool.new ≡ without_next pool.old) }
+    ensures err { OnErr result (Waits tail.old (C.lists chronicle.old) tail.new (C.lists chronicle.new) ⊎ ((pool.old.prepared ≡ []) × Wrote (D.moment disk.old) tail.old (C.lists chronicle.old) tail.new (C.lists chronicle.new))) }
+    ensures same_pool { OnErr result (pool.new ≡ pool.old) }
+    ensures receipt { OnOk result (C.lists chronicle.new ≡ receipted (is_some tail.old.buffer.since) tail.old.appended (counted (counted (D.moment disk.old))) (C.lists chronicle.old)) }
+    ensures steps { C.step_room chronicle.new ≡ C.step_room chronicle.old }
+    ensures room { C.receipt_room chronicle.old ≤ C.receipt_room chronicle.new + 1 }
+    ensures idle { tail.old.buffer.since ≡ None → (pool.old.prepared ≡ [] → ⊥) → disk.new ≡ disk.old }
+    ensures cause { HasFault result (D.faults disk.old) (D.faults disk.new) }
+    ensures calls { D.moment disk.new ≤ D.moment disk.old + (if is_nil pool.old.prepared then 6 else 2) }
+{
+    write_out(disk, chronicle, tail)?;
+    if pool.free_count() == 0 {
+        prepare(disk, pool)?;
+    }
+    let Some(file) = pool.take() else {
+        unreachable!()
+    };
+    tail.file = file;
+    tail.end = FIRST_PLACE;
+    Ok(())
+}
+
+/// Makes the journal ready for an accepted command: it goes on to a further file where that is asked
+/// for, and else writes the buffer out where the command asks for that, or has a record that doesn't fit.
+pub fn ready<D: Disk, C: Chronicle>(
+    disk: &mut D,
+    chronicle: &mut C,
+    pool: &mut Pool,
+    tail: &mut Tail,
+    moves: bool,
+    command: &Command,
+    rec: &Option<Record>,
+) -> Result<(), DiskFault>
+    requires record { option_map len_of rec.now ≡ record_len command.now }
+    requires there { Told (D.past disk.old) (IsThere tail.old.file.name) }
+    requires within { Told (D.past disk.old) (IsWithin tail.old.file.name (end_of_tail tail.old)) }
+    requires size { end_of_tail tail.old ≤ 268435456 }
+    requires room { (tail.old.buffer.bytes ≡ [] → ⊥) → 1 ≤ C.receipt_room chronicle.old }
+    requires number { moves ≡ true → pool.old.prepared ≡ [] → pool.old.highest < 2 ^ 31 - 1 }
+    ensures valid { (config : Config) (table : TxState)
+        → IsValid (D.past disk.old) (D.moment disk.old) (C.lists chronicle.old) (C.receipt_room chronicle.old) config table pool.old tail.old
+        → IsValid (D.past disk.new) (D.moment disk.new) (C.lists chronicle.new) (C.receipt_room chronicle.new) config table pool.new tail.new }
+    ensures ok { OnOk result (tail.new ≡ readied moves (flushes tail.old.buffer.capacity (length tail.old.buffer.bytes) command.now) pool.old tail.old) }
+    ensures pool { OnOk result (pool.new ≡ pool_readied moves pool.old) }
+    ensures err { OnErr result (Waits tail.old (C.lists chronicle.old) tail.new (C.lists chronicle.new) ⊎ ((moves ≡ true) × (pool.old.prepared ≡ []) × Wrote (D.moment disk.old) tail.old (C.lists chronicle.old) tail.new (C.lists chronicle.new))) }
+    ensures same_pool { OnErr result (pool.new ≡ pool.old) }
+    ensures receipt { OnOk result (C.lists chronicle.new ≡ receipted ((moves || flushes tail.old.buffer.capacity (length tail.old.buffer.bytes) command.now) && is_some tail.old.buffer.since) tail.old.appended (counted (counted (D.moment disk.old))) (C.lists chronicle.old)) }
+    ensures steps { C.step_room chronicle.new ≡ C.step_room chronicle.old }
+    ensures room { C.receipt_room chronicle.old ≤ C.receipt_room chronicle.new + 1 }
+    ensures idle { (moves || flushes tail.old.buffer.capacity (length tail.old.buffer.bytes) command.now) && is_some tail.old.buffer.since ≡ false → moves && is_nil pool.old.prepared ≡ false → disk.new ≡ disk.old }
+    ensures cause { HasFault result (D.faults disk.old) (D.faults disk.new) }
+    ensures calls { D.moment disk.new ≤ D.moment disk.old + (if moves && is_nil pool.old.prepared then 6 else 2) }
+{
+    if moves {
+        go_on(disk, chronicle, pool, tail)
+    } else if writes_first(&tail.buffer, command, rec) {
+        write_out(disk, chronicle, tail)
+    } else {
+        Ok(())
+    }
+}
+
+/// Whether the buffer is written out before an accepted command: where it asks for that, or has a record
+/// that doesn't fit.
+fn writes_first(buffer: &TimedBuffer, command: &Command, rec: &Option<Record>) -> bool
+    requires record { option_map len_of rec.now ≡ record_len command.now }
+    ensures { result ≡ flushes buffer.now.capacity (length buffer.now.bytes) command.now }
+{
+    match rec {
+        Some(rec) => !buffer.fits(encoded_len(rec)),
+        None => matches!(command, Command::Flush),
+    }
+}
+
+/// Prepares files until there are so many with the file in use.
+pub fn fill_pool<D: Disk>(disk: &mut D, pool: &mut Pool, min_files: u32) -> Result<(), DiskFault>
+    requires some { 1 ≤ min_files }
+    requires numbers { pool.old.highest + min_files ≤ 2 ^ 31 - 1 }
+    ensures valid { (lists : Option Lists) (room : ℕ) (config : Config) (table : TxState) (tail : Tail)
+        → IsValid (D.past disk.old) (D.moment disk.old) lists room config table pool.old tail
+        → IsValid (D.past disk.new) (D.moment disk.new) lists room config table pool.new tail }
+    ensures filled { OnOk result (pool.new ≡ with_files (min_files - 1) pool.old) }
+    ensures cause { HasFault result (D.faults disk.old) (D.faults disk.new) }
+{
+    for _ in 1..min_files {
+        prepare(disk, pool)?;
+    }
+    Ok(())
+}
