@@ -157,7 +157,7 @@ fn length_refusal(config: &Config, rec: &Option<Record>) -> Option<Refusal>
 }
 
 /// The refusal where a further file is needed, none is prepared, and the numbers of files are spent.
-fn number_refusal(pool: &Pool, moves: bool) -> Option<Refusal>
+pub fn number_refusal(pool: &Pool, moves: bool) -> Option<Refusal>
     ensures first { result ≡ spent moves pool.now.highest (ids_of pool.now.prepared) }
 {
     if pool.free_count() > 0 {

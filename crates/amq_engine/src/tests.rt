@@ -2,9 +2,11 @@ ghost use Rattle.std.specs.Prelude.{IfSome};
 ghost use Rattle.amq_model.specs.Configs.{IsConfig};
 ghost use Rattle.amq_engine.specs.Engine.{IsBlank};
 
+use crate::commands::number_refusal;
 use crate::{Chronicle, Engine, Kept, OpenFailed, Receipted, Unkept};
 use amq_io::{Disk, MemoryDisk, Pick};
 use amq_model::{Brief, Bytes, Command, Config, DiskCall, Refusal, Reply};
+use amq_pool::Pool;
 use amq_scan::scan;
 use std::alloc::Global;
 use std::process::Abort;
@@ -394,4 +396,24 @@ fn closed_after_a_sync_that_failed(rt: HostRuntime) -> Result<(), Fail> {
     check(&rt, alloc, &disk, Pick::Keep, 2)?;
     check(&rt, alloc, &disk, Pick::Revert, 1)?;
     check(&rt, alloc, &disk, Pick::Fill(0), 1)
+}
+
+/// With the greatest number given, a command that needs a further file is refused where none is prepared.
+/// With one less a file can be prepared, and with that one the greatest number is given.
+#[test]
+fn the_greatest_number(rt: HostRuntime) -> Result<(), Fail> {
+    let alloc = rt.alloc();
+    let mut disk = MemoryDisk::new(alloc)?;
+    let mut pool = Pool::new(alloc, 2_147_483_646, &SMALL);
+    assert_eq!(rt; number_refusal(&pool, true), None);
+    pool.prepare_step(&mut disk)?;
+    assert_eq!(rt; number_refusal(&pool, true), None);
+    let file = pool.take().ok_or("no file")?;
+    assert_eq!(rt; file.id, 2_147_483_647);
+    let spent = Refusal::FileIdsSpent {
+        highest: 2_147_483_647,
+    };
+    assert_eq!(rt; number_refusal(&pool, true), Some(spent));
+    assert_eq!(rt; number_refusal(&pool, false), None);
+    Ok(())
 }
