@@ -121,26 +121,26 @@ sent_no_tick answered l.Compact command answer is = absurd (let e : None ≡ Som
 sent_no_tick answered (l.Step steps) command answer is = absurd (let e : None ≡ Some command = is in cc)
 
 -- and any answer will do
-sent_answer : (timeout : ℕ) (answered : List Answered) (line : Line) (command : Command) (answer : Answer) → sent answered line ≡ Some command → IsLineAnswer timeout answered line (Some answer)
-sent_answer timeout answered (l.Plain given) command answer is = tt
-sent_answer timeout answered (l.Labelled label given) command answer is = tt
-sent_answer timeout answered (l.Bind label tx) command answer is = absurd (let e : None ≡ Some command = is in cc)
-sent_answer timeout answered (l.Tick now) command answer is = absurd (let e : None ≡ Some command = is in cc)
-sent_answer timeout answered l.Reclaim command answer is = absurd (let e : None ≡ Some command = is in cc)
-sent_answer timeout answered l.Compact command answer is = absurd (let e : None ≡ Some command = is in cc)
-sent_answer timeout answered (l.Step steps) command answer is = absurd (let e : None ≡ Some command = is in cc)
+sent_answer : (opened timeout : ℕ) (answered : List Answered) (line : Line) (command : Command) (answer : Answer) → sent answered line ≡ Some command → IsLineAnswer opened timeout answered line (Some answer)
+sent_answer opened timeout answered (l.Plain given) command answer is = tt
+sent_answer opened timeout answered (l.Labelled label given) command answer is = tt
+sent_answer opened timeout answered (l.Bind label tx) command answer is = absurd (let e : None ≡ Some command = is in cc)
+sent_answer opened timeout answered (l.Tick now) command answer is = absurd (let e : None ≡ Some command = is in cc)
+sent_answer opened timeout answered l.Reclaim command answer is = absurd (let e : None ≡ Some command = is in cc)
+sent_answer opened timeout answered l.Compact command answer is = absurd (let e : None ≡ Some command = is in cc)
+sent_answer opened timeout answered (l.Step steps) command answer is = absurd (let e : None ≡ Some command = is in cc)
 
 -- ---- lines
 
 module _ {D : Type 0} (timeout : ℕ) (answered : List Answered) (number : ℕ) (old new : EngineOf D Kept) (was : IsPlaying timeout answered number old) where
   -- the numbers of this engine, with the receipts that there are now
   abbrev Numbers : List Answered → EngineOf D Kept → Type 0
-  Numbers xs e = AreNumbers xs new.chronicle.receipts.items e.clock e.appended e.durable e.since
+  Numbers xs e = AreNumbers was.opened xs new.chronicle.receipts.items e.clock e.appended e.durable e.since
 
   -- the buffer written out first, or not
   first_flushed : (b : Bool) → Grows old.chronicle.receipts.items new.chronicle.receipts.items → IsReceipted new.chronicle.receipts.items (cond b (flushed old) old).durable → Numbers answered (cond b (flushed old) old)
-  first_flushed true grows last = numbers_flushed answered old.chronicle.receipts.items new.chronicle.receipts.items old.clock old.appended old.durable old.since was.numbers (more_receipts _ _ grows) last
-  first_flushed false grows last = weaker_receipts answered old.chronicle.receipts.items new.chronicle.receipts.items old.clock old.appended old.durable old.since was.numbers (more_receipts _ _ grows) last
+  first_flushed true grows last = numbers_flushed was.opened answered old.chronicle.receipts.items new.chronicle.receipts.items old.clock old.appended old.durable old.since was.numbers (more_receipts _ _ grows) last
+  first_flushed false grows last = weaker_receipts was.opened answered old.chronicle.receipts.items new.chronicle.receipts.items old.clock old.appended old.durable old.since was.numbers (more_receipts _ _ grows) last
 
   -- the numbers are those of an engine of which no more is said
   as_new : (xs : List Answered) (e : EngineOf D Kept) → new ≡ record e { disk = new.disk; chronicle = new.chronicle } → Numbers xs e → Numbers xs new
@@ -162,10 +162,10 @@ module _ {D : Type 0} (timeout : ℕ) (answered : List Answered) (number : ℕ) 
       → Numbers (answered ++ x ∷ []) (with_record (Some len) (Ready m b))
   record_numbers x len true b no_tick at no_count grows last = by old.free last where
     by : (ids : List ℕ) → IsReceipted new.chronicle.receipts.items (Gone ids).durable → Numbers (answered ++ x ∷ []) (with_record (Some len) (Gone ids))
-    by [] last = numbers_appended answered x _ old.clock old.appended old.appended None no_tick at no_count (first_flushed true grows last)
-    by (id ∷ ids) last = numbers_appended answered x _ old.clock old.appended old.appended None no_tick at no_count (first_flushed true grows last)
-  record_numbers x len false true no_tick at no_count grows last = numbers_appended answered x _ old.clock old.appended old.appended None no_tick at no_count (first_flushed true grows last)
-  record_numbers x len false false no_tick at no_count grows last = numbers_appended answered x _ old.clock old.appended old.durable old.since no_tick at no_count (first_flushed false grows last)
+    by [] last = numbers_appended was.opened answered x _ old.clock old.appended old.appended None no_tick at no_count (first_flushed true grows last)
+    by (id ∷ ids) last = numbers_appended was.opened answered x _ old.clock old.appended old.appended None no_tick at no_count (first_flushed true grows last)
+  record_numbers x len false true no_tick at no_count grows last = numbers_appended was.opened answered x _ old.clock old.appended old.appended None no_tick at no_count (first_flushed true grows last)
+  record_numbers x len false false no_tick at no_count grows last = numbers_appended was.opened answered x _ old.clock old.appended old.durable old.since no_tick at no_count (first_flushed false grows last)
 
   -- a command that was accepted
   command_numbers : (line : Line) (command : Command) (reply : Reply) → ticked (line, Some (Done reply)) ≡ None → IsReply old.appended command reply → Grows old.chronicle.receipts.items new.chronicle.receipts.items → IsReceipted new.chronicle.receipts.items (behind_command command old).durable
@@ -192,9 +192,9 @@ module _ {D : Type 0} (timeout : ℕ) (answered : List Answered) (number : ℕ) 
     by (c.Rollback tx) is last = appended (c.Rollback tx) (len_of (r.Rollback tx)) is last
     by c.Begin is last =
         let none = of_begin reply is in
-        numbers_answered answered (line, Some (Done reply)) _ old.clock old.clock old.appended old.durable old.since (was.numbers.time ∙ sym (same_clock answered (line, Some (Done reply)) no_tick)) none.0 (inl none.1) (first_flushed false grows last)
+        numbers_answered was.opened answered (line, Some (Done reply)) _ old.clock old.clock old.appended old.durable old.since (was.numbers.time ∙ sym (same_clock answered (line, Some (Done reply)) no_tick)) none.0 (inl none.1) (first_flushed false grows last)
     by c.Flush is last =
-        numbers_answered answered (line, Some (Done reply)) _ old.clock old.clock old.appended old.appended None (was.numbers.time ∙ sym (same_clock answered (line, Some (Done reply)) no_tick)) (ap (λ (r : Reply). placed_at (line, Some (Done r))) is) (inr (ap (λ (r : Reply). counted (line, Some (Done r))) is)) (first_flushed true grows last)
+        numbers_answered was.opened answered (line, Some (Done reply)) _ old.clock old.clock old.appended old.appended None (was.numbers.time ∙ sym (same_clock answered (line, Some (Done reply)) no_tick)) (ap (λ (r : Reply). placed_at (line, Some (Done r))) is) (inr (ap (λ (r : Reply). counted (line, Some (Done r))) is)) (first_flushed true grows last)
 
   pub command_accepted : {file end : ℕ} (line : Line) (command : Command) (reply : Reply) (b : Bool) (moment : ℕ) → sent answered line ≡ Some command → IsReply old.appended command reply → new ≡ record (behind_command command old) { disk = new.disk; chronicle = new.chronicle }
       → Notes 1 number command (Ok reply) file end (receipted b old.appended moment (Some (lists_of old.chronicle))) (Some (lists_of new.chronicle)) → IsLastCount new.durable new.chronicle.receipts.items → IsPlaying timeout (answered ++ (line, Some (Done reply)) ∷ []) (number + 1) new
@@ -203,9 +203,10 @@ module _ {D : Type 0} (timeout : ℕ) (answered : List Answered) (number : ℕ) 
       let n = noted number command (Ok reply) b old.appended moment (lists_of old.chronicle) (lists_of new.chronicle) refl notes in
       let durable : new.durable ≡ (behind_command command old).durable = ap (λ (e : EngineOf D Kept). e.durable) went in
       record {
+        opened = was.opened;
         numbers = as_new _ (behind_command command old) went (command_numbers line command reply (sent_no_tick answered line command (Some (Done reply)) sends) is n.receipts (subst (IsReceipted new.chronicle.receipts.items) durable (last_receipted new.durable new.chronicle.receipts.items last)));
-        steps = subst (λ ss. AreSteps (answered ++ x ∷ []) ss (number + 1)) (sym n.steps) (step_more answered old.chronicle.steps.items number n.step x was.steps n.seated n.numbered (said answered line sends n));
-        answers = one_more_answer timeout answered x was.answers (sent_answer timeout answered line command (Done reply) sends);
+        steps = subst (λ ss. AreSteps was.opened (answered ++ x ∷ []) ss (number + 1)) (sym n.steps) (step_more was.opened answered old.chronicle.steps.items number n.step x was.steps n.seated n.numbered (said answered line sends n));
+        answers = one_more_answer was.opened timeout answered x was.answers (sent_answer was.opened timeout answered line command (Done reply) sends);
       }
 
   pub command_refused : {file end : ℕ} (line : Line) (command : Command) (refusal : Refusal) (b : Bool) (moment : ℕ) → sent answered line ≡ Some command → is_noted (Err refusal) ≡ true → new ≡ record old { chronicle = new.chronicle }
@@ -214,10 +215,11 @@ module _ {D : Type 0} (timeout : ℕ) (answered : List Answered) (number : ℕ) 
       let n = noted number command (Err refusal) b old.appended moment (lists_of old.chronicle) (lists_of new.chronicle) taken notes in
       let x : Answered = (line, Some (Refused refusal)) in
       record {
+        opened = was.opened;
         numbers = subst (Numbers (answered ++ x ∷ [])) (sym went)
-            (numbers_answered answered x _ old.clock old.clock old.appended old.durable old.since (was.numbers.time ∙ sym (same_clock answered x (sent_no_tick answered line command (Some (Refused refusal)) sends))) refl (inl refl) (first_flushed false n.receipts (more_receipts _ _ n.receipts old.durable was.numbers.last)));
-        steps = subst (λ ss. AreSteps (answered ++ x ∷ []) ss (number + 1)) (sym n.steps) (step_more answered old.chronicle.steps.items number n.step x was.steps n.seated n.numbered (said answered line sends n));
-        answers = one_more_answer timeout answered x was.answers (sent_answer timeout answered line command (Refused refusal) sends);
+            (numbers_answered was.opened answered x _ old.clock old.clock old.appended old.durable old.since (was.numbers.time ∙ sym (same_clock answered x (sent_no_tick answered line command (Some (Refused refusal)) sends))) refl (inl refl) (first_flushed false n.receipts (more_receipts _ _ n.receipts old.durable was.numbers.last)));
+        steps = subst (λ ss. AreSteps was.opened (answered ++ x ∷ []) ss (number + 1)) (sym n.steps) (step_more was.opened answered old.chronicle.steps.items number n.step x was.steps n.seated n.numbered (said answered line sends n));
+        answers = one_more_answer was.opened timeout answered x was.answers (sent_answer was.opened timeout answered line command (Refused refusal) sends);
       }
 
   pub tick_answered : (now count moment : ℕ) → timeout ≡ old.config.buffer_timeout → count ≡ new.durable → new ≡ record (behind_tick now old) { disk = new.disk; chronicle = new.chronicle }
@@ -237,17 +239,19 @@ module _ {D : Type 0} (timeout : ℕ) (answered : List Answered) (number : ℕ) 
         let gone : new ≡ record (flushed (at_clock now old)) { disk = new.disk; chronicle = new.chronicle } = went ∙ ap (λ b. record (cond b (flushed (at_clock now old)) (at_clock now old)) { disk = new.disk; chronicle = new.chronicle }) here in
         let all : count ≡ old.appended = is ∙ ap (λ (e : EngineOf D Kept). e.durable) gone in
         record {
-          numbers = subst (Numbers (answered ++ (l.Tick now, Some (Done (Durable count))) ∷ [])) (sym gone) (numbers_answered answered (l.Tick now, Some (Done (Durable count))) _ old.clock (max old.clock now) old.appended old.appended None later refl (inr (ap Some all)) (first_flushed true lists.receipts (subst (IsReceipted new.chronicle.receipts.items) (ap (λ (e : EngineOf D Kept). e.durable) gone) receipted_now)));
-          steps = subst (λ ss. AreSteps (answered ++ (l.Tick now, Some (Done (Durable count))) ∷ []) ss number) (sym lists.steps) (steps_same answered old.chronicle.steps.items number (l.Tick now, Some (Done (Durable count))) was.steps refl);
-          answers = one_more_answer timeout answered (l.Tick now, Some (Done (Durable count))) was.answers (subst (λ (n : ℕ). IsTicked timeout answered now n) (sym all) (tick_flushes timeout answered _ old.clock old.appended old.durable now old.since was.numbers));
+          opened = was.opened;
+          numbers = subst (Numbers (answered ++ (l.Tick now, Some (Done (Durable count))) ∷ [])) (sym gone) (numbers_answered was.opened answered (l.Tick now, Some (Done (Durable count))) _ old.clock (max old.clock now) old.appended old.appended None later refl (inr (ap Some all)) (first_flushed true lists.receipts (subst (IsReceipted new.chronicle.receipts.items) (ap (λ (e : EngineOf D Kept). e.durable) gone) receipted_now)));
+          steps = subst (λ ss. AreSteps was.opened (answered ++ (l.Tick now, Some (Done (Durable count))) ∷ []) ss number) (sym lists.steps) (steps_same was.opened answered old.chronicle.steps.items number (l.Tick now, Some (Done (Durable count))) was.steps refl);
+          answers = one_more_answer was.opened timeout answered (l.Tick now, Some (Done (Durable count))) was.answers (subst (λ (n : ℕ). IsTicked was.opened timeout answered now n) (sym all) (tick_flushes was.opened timeout answered _ old.clock old.appended old.durable now old.since was.numbers));
         }
     by false here =
         let gone : new ≡ record (at_clock now old) { disk = new.disk; chronicle = new.chronicle } = went ∙ ap (λ b. record (cond b (flushed (at_clock now old)) (at_clock now old)) { disk = new.disk; chronicle = new.chronicle }) here in
         let same : count ≡ old.durable = is ∙ ap (λ (e : EngineOf D Kept). e.durable) gone in
         record {
-          numbers = subst (Numbers (answered ++ (l.Tick now, Some (Done (Durable count))) ∷ [])) (sym gone) (numbers_answered answered (l.Tick now, Some (Done (Durable count))) _ old.clock (max old.clock now) old.appended old.durable old.since later refl (inr (ap Some same)) (first_flushed false lists.receipts (more_receipts _ _ lists.receipts old.durable was.numbers.last)));
-          steps = subst (λ ss. AreSteps (answered ++ (l.Tick now, Some (Done (Durable count))) ∷ []) ss number) (sym lists.steps) (steps_same answered old.chronicle.steps.items number (l.Tick now, Some (Done (Durable count))) was.steps refl);
-          answers = one_more_answer timeout answered (l.Tick now, Some (Done (Durable count))) was.answers (subst (λ (n : ℕ). IsTicked timeout answered now n) (sym same) (tick_waits timeout answered _ old.clock old.appended old.durable now old.since (ap (λ (t : ℕ). is_due (max old.clock now) t old.since) time ∙ here) was.numbers));
+          opened = was.opened;
+          numbers = subst (Numbers (answered ++ (l.Tick now, Some (Done (Durable count))) ∷ [])) (sym gone) (numbers_answered was.opened answered (l.Tick now, Some (Done (Durable count))) _ old.clock (max old.clock now) old.appended old.durable old.since later refl (inr (ap Some same)) (first_flushed false lists.receipts (more_receipts _ _ lists.receipts old.durable was.numbers.last)));
+          steps = subst (λ ss. AreSteps was.opened (answered ++ (l.Tick now, Some (Done (Durable count))) ∷ []) ss number) (sym lists.steps) (steps_same was.opened answered old.chronicle.steps.items number (l.Tick now, Some (Done (Durable count))) was.steps refl);
+          answers = one_more_answer was.opened timeout answered (l.Tick now, Some (Done (Durable count))) was.answers (subst (λ (n : ℕ). IsTicked was.opened timeout answered now n) (sym same) (tick_waits was.opened timeout answered _ old.clock old.appended old.durable now old.since (ap (λ (t : ℕ). is_due (max old.clock now) t old.since) time ∙ here) was.numbers));
         }
 
 -- ---- labels
@@ -255,9 +259,10 @@ module _ {D : Type 0} (timeout : ℕ) (answered : List Answered) (number : ℕ) 
 -- a bind is no command
 pub bound : {D : Type 0} (timeout : ℕ) (answered : List Answered) (number : ℕ) (e : EngineOf D Kept) (label : List ℕ) (tx : ℕ) → IsPlaying timeout answered number e → IsPlaying timeout (answered ++ (l.Bind label tx, None) ∷ []) number e
 bound timeout answered number e label tx was = record {
-  numbers = numbers_answered answered (l.Bind label tx, None) _ e.clock e.clock e.appended e.durable e.since (was.numbers.time ∙ sym (same_clock answered (l.Bind label tx, None) refl)) refl (inl refl) was.numbers;
-  steps = steps_same answered _ number (l.Bind label tx, None) was.steps refl;
-  answers = one_more_answer timeout answered (l.Bind label tx, None) was.answers tt;
+  opened = was.opened;
+  numbers = numbers_answered was.opened answered (l.Bind label tx, None) _ e.clock e.clock e.appended e.durable e.since (was.numbers.time ∙ sym (same_clock answered (l.Bind label tx, None) refl)) refl (inl refl) was.numbers;
+  steps = steps_same was.opened answered _ number (l.Bind label tx, None) was.steps refl;
+  answers = one_more_answer was.opened timeout answered (l.Bind label tx, None) was.answers tt;
 }
 
 -- a line that begins nothing leaves each label as it is

@@ -14,7 +14,7 @@ use Rattle.amq_engine.specs.declared.chronicle.Kept.{Kept}
 use Rattle.amq_engine.specs.declared.chronicle.Receipted.{Receipted}
 use Rattle.amq_engine.specs.Engine.{EngineOf, is_noted, IsFlushRefusal}
 use Rattle.amq_cli.specs.Offline.{lists_of}
-use Rattle.amq_cli.specs.Replay.{Answered, line_of, reply_lines, AreAnswered, HasEnded, HasReplayed, IsLast}
+use Rattle.amq_cli.specs.Replay.{Answered, line_of, reply_lines, AreAnswered, AreLineAnswers, HasEnded, HasReplayed, IsLast}
 use Rattle.amq_cli.specs.Playing.{Grows, HasNoStep, IsPlaying, HasPlayed, AreNumbersOf}
 use Rattle.amq_cli.proofs.Answering.{more_receipts}
 
@@ -68,7 +68,7 @@ module _ {D : Type 0} (timeout : ℕ) where
     commands = playing.steps.commands;
     numbered = playing.steps.numbered;
     receipted = playing.numbers.receipted;
-    answers = playing.answers;
+    answers = subst (λ (n : ℕ). AreLineAnswers n timeout [] answered) (sym playing.steps.rolls) playing.answers;
   } where
     long : length answered ≡ length done
     long = sym (length-map answered (λ (x : Answered). x.0)) ∙ ap length lines

@@ -4,8 +4,8 @@ pub mod Answering
 pub mod Ending
 pub mod Running
 pub mod Outputs
-pub mod Readings
-pub mod Reloading
+pub mod Loading
 pub mod Labelling
 pub mod ReplayExamples
 pub mod Recovering
+pub mod Digits

@@ -11,9 +11,10 @@ use Rattle.amq_cli.specs.declared.status.Status.{Status}
 use Rattle.amq_cli.specs.declared.status.Status.TheVariants as s
 use Rattle.amq_cli.specs.declared.status.Unbuilt.TheVariants as u
 use Rattle.amq_cli.specs.Output.{IsPartWritten}
-use Rattle.amq_cli.specs.Script.{IsSaid, HasReadCause}
-use Rattle.amq_cli.specs.Replay.{Answered}
-use Rattle.amq_cli.specs.Offline.{HasText, IsOutput, IsEnding, IsEnd, IsWritten, is_short, is_past_script}
+use Rattle.amq_cli.specs.Script.{HasReadCause}
+use Rattle.amq_cli.specs.Replay.{Answered, own}
+use Rattle.amq_cli.specs.declared.words.Task.{Task}
+use Rattle.amq_cli.specs.Offline.{HasText, IsTextOf, IsOutput, IsEnding, IsEnd, IsWritten, is_short, is_past_script}
 use Rattle.amq_cli.proofs.Running.{unopened_text}
 
 nothing_part : (text : List ℕ) (taken : Option (List ℕ)) → IsPartWritten text taken taken
@@ -27,15 +28,12 @@ nothing_written text None none = refl
 nothing_written text (Some t) none = ap Some (sym (append-nil t)) ∙ ap (λ (x : List ℕ). Some (t ++ x)) (sym none)
 
 -- before there is a line
-pub no_output : (timeout : ℕ) (status : Status) (Loaded : LoadState → Type 0) (left_old left_new : Option (List ℕ)) (was now : Faults) (sink : ℕ) (taken : Option (List ℕ)) (steps : List Step) (receipts : List Receipted) → steps ≡ [] → is_past_script status ≡ false → IsEnding status Loaded was now [] [] []
-    → IsOutput timeout status Loaded left_old left_new was now sink sink taken taken steps receipts
-no_output timeout status Loaded left_old left_new was now sink taken steps receipts none before ends = record {
+pub no_output : (task : Option Task) (timeout : ℕ) (status : Status) (Loaded : LoadState → Type 0) (left_old left_new : Option (List ℕ)) (was now : Faults) (sink : ℕ) (taken : Option (List ℕ)) (steps : List Step) (receipts : List Receipted) → steps ≡ [] → is_past_script status ≡ false → IsEnding status Loaded was now [] [] []
+    → IsOutput task timeout status Loaded left_old left_new was now sink sink taken taken steps receipts
+no_output task timeout status Loaded left_old left_new was now sink taken steps receipts none before ends = record {
   lines = [];
-  text = [];
+  written = record { text = []; has = unopened_text timeout status Loaded [] was now steps receipts [] (ap own none) refl ends; part = nothing_part [] taken; whole = inl (nothing_written [] taken refl) };
   said = inl (before, refl, refl);
-  has = unopened_text timeout status Loaded [] was now steps receipts [] none refl ends;
-  part = nothing_part [] taken;
-  whole = inl (nothing_written [] taken refl);
 }
 
 -- a script that wasn't read
@@ -46,14 +44,24 @@ reading_ends (s.InputTooLong limit) Loaded left old new was now cause = (refl, (
 reading_ends (s.NotBuilt u.Script) Loaded left old new was now cause = (refl, (refl, refl))
 reading_ends (s.NotBuilt u.Words) Loaded left old new was now cause = absurd cause
 reading_ends (s.NotBuilt u.Directory) Loaded left old new was now cause = absurd cause
+reading_ends (s.Directory fault) Loaded left old new was now cause = absurd cause
+reading_ends (s.FileIdsSpent highest) Loaded left old new was now cause = absurd cause
 reading_ends s.Ok Loaded left old new was now cause = absurd cause
 reading_ends s.SinkFault Loaded left old new was now cause = absurd cause
 reading_ends s.DiskFault Loaded left old new was now cause = absurd cause
 
--- a run on a disk that isn't of a form that isn't built
-pub unwritten_output : (timeout : ℕ) (status : Status) (Loaded : LoadState → Type 0) (lines : List Line) (left_old left_new : Option (List ℕ)) (was now : Faults) (sink : ℕ) (taken : Option (List ℕ)) (steps : List Step) (receipts : List Receipted) (text : List ℕ) → IsSaid lines left_old left_new → text ≡ []
-    → HasText timeout status Loaded lines was now steps receipts text → IsOutput timeout status Loaded left_old left_new was now sink sink taken taken steps receipts
-unwritten_output timeout status Loaded lines left_old left_new was now sink taken steps receipts text said none has = record { lines = lines; text = text; said = inr said; has = has; part = nothing_part text taken; whole = inl (nothing_written text taken none) }
+-- words that have no meaning
+pub asking_ends : (status : Status) (Loaded : LoadState → Type 0) (was now : Faults) → status ≡ s.NotBuilt u.Words → (is_past_script status ≡ false) × IsEnding status Loaded was now [] [] []
+asking_ends status Loaded was now is = subst (λ (x : Status). (is_past_script x ≡ false) × IsEnding x Loaded was now [] [] []) (sym is) (refl, (refl, refl))
+
+-- there was no memory for the line
+pub short_ends : (status : Status) (Loaded : LoadState → Type 0) (was now : Faults) → status ≡ s.NoMemory → (is_past_script status ≡ false) × IsEnding status Loaded was now [] [] []
+short_ends status Loaded was now is = subst (λ (x : Status). (is_past_script x ≡ false) × IsEnding x Loaded was now [] [] []) (sym is) (refl, inl refl)
+
+-- a run of which nothing is written
+pub unwritten_text : (timeout : ℕ) (status : Status) (Loaded : LoadState → Type 0) (lines : List Line) (was now : Faults) (sink : ℕ) (taken : Option (List ℕ)) (steps : List Step) (receipts : List Receipted) (text : List ℕ) → text ≡ [] → HasText timeout status Loaded lines was now steps receipts text
+    → IsTextOf timeout status Loaded lines was now sink sink taken taken steps receipts
+unwritten_text timeout status Loaded lines was now sink taken steps receipts text none has = record { text = text; has = has; part = nothing_part text taken; whole = inl (nothing_written text taken none) }
 
 any_ending : (outcome : Status) (Loaded : LoadState → Type 0) (was now : Faults) (lines : List Line) (answered : List Answered) (ending : List ℕ) → IsEnding outcome Loaded was now lines answered ending → IsEnding s.NoMemory Loaded was now lines answered ending
 any_ending s.Ok Loaded was now lines answered ending ends = inr (inr ends)
@@ -63,6 +71,8 @@ any_ending s.DiskFault Loaded was now lines answered ending (inr line) = inr (in
 any_ending s.NoMemory Loaded was now lines answered ending ends = ends
 any_ending s.SourceFault Loaded was now lines answered ending ends = inl ends.0
 any_ending (s.InputTooLong limit) Loaded was now lines answered ending ends = inl ends.0
+any_ending (s.Directory fault) Loaded was now lines answered ending ends = inl ends.0
+any_ending (s.FileIdsSpent highest) Loaded was now lines answered ending ends = inl ends.0
 any_ending (s.NotBuilt part) Loaded was now lines answered ending ends = inl ends.0
 
 -- the status behind the sink
@@ -82,12 +92,10 @@ text_behind timeout status outcome Loaded lines was now old new steps receipts t
   by has = record { answered = has.answered; are = has.are; ending = has.ending; ends = has.ends; rest = has.rest; is = has.is; whole = has.whole }
 
 -- a run whose text was given to the sink
-pub written_output : (timeout : ℕ) (status outcome : Status) (Loaded : LoadState → Type 0) (lines : List Line) (left_old left_new : Option (List ℕ)) (was now : Faults) (sink_old sink_new : ℕ) (taken_old taken_new : Option (List ℕ)) (steps : List Step) (receipts : List Receipted) (text : List ℕ) → IsSaid lines left_old left_new → IsEnd status outcome sink_old sink_new
-    → HasText timeout outcome Loaded lines was now steps receipts text → IsPartWritten text taken_old taken_new → IsWritten text taken_old taken_new ⊎ Rose sink_old sink_new ⊎ (is_short status ≡ true) → IsOutput timeout status Loaded left_old left_new was now sink_old sink_new taken_old taken_new steps receipts
-written_output timeout status outcome Loaded lines left_old left_new was now sink_old sink_new taken_old taken_new steps receipts text said end has part whole = record {
-  lines = lines;
+pub written_text : (timeout : ℕ) (status outcome : Status) (Loaded : LoadState → Type 0) (lines : List Line) (was now : Faults) (sink_old sink_new : ℕ) (taken_old taken_new : Option (List ℕ)) (steps : List Step) (receipts : List Receipted) (text : List ℕ) → IsEnd status outcome sink_old sink_new
+    → HasText timeout outcome Loaded lines was now steps receipts text → IsPartWritten text taken_old taken_new → IsWritten text taken_old taken_new ⊎ Rose sink_old sink_new ⊎ (is_short status ≡ true) → IsTextOf timeout status Loaded lines was now sink_old sink_new taken_old taken_new steps receipts
+written_text timeout status outcome Loaded lines was now sink_old sink_new taken_old taken_new steps receipts text end has part whole = record {
   text = text;
-  said = inr said;
   has = text_behind timeout status outcome Loaded lines was now sink_old sink_new steps receipts text end has;
   part = part;
   whole = whole;

@@ -1,15 +1,18 @@
 -- A replay under way, line by line.
 use Rattle.std.proofs.Common.{◌≡◌, ◌⊎◌, inl, inr, ℕ, ◌+◌, ◌-◌, ◌<◌, ◌≤◌, false, List, [], ◌∷◌, ◌++◌, length, Option, None, Some, refl, sym, ap, subst, ◌∙◌, append_assoc, arith}
-use Rattle.std.specs.Prelude.{max, fold, All}
+use Rattle.std.specs.Prelude.{max, fold, All, map, not, ◌==◌, if◌then◌else◌}
 use Rattle.std.specs.List.{filter_map, cons_option}
 use Rattle.std.proofs.lemmas.Bool.{leb-false}
 use Rattle.std.proofs.lemmas.List.{append-nil, length-append, map-append}
 use Rattle.std.proofs.lemmas.List.Sums.{fold_push}
-use Rattle.std.proofs.lemmas.List.Elements.{All-push, All-head, All-tail, filter_map-append}
+use Rattle.std.proofs.lemmas.List.Elements.{All-push, All-head, All-tail, filter-append, filter_map-append}
+use Rattle.amq_model.specs.declared.command.Command.{Command}
+use Rattle.amq_model.specs.declared.history.Answer.{Answer}
 use Rattle.amq_model.specs.declared.history.Step.{Step}
+use Rattle.amq_model.specs.Answers.{history_of}
 use Rattle.amq_engine.specs.Engine.{begun, is_due}
 use Rattle.amq_engine.specs.declared.chronicle.Receipted.{Receipted}
-use Rattle.amq_cli.specs.Replay.{Answered, commanded, all_commanded, number_behind, placed_at, counted, ticked, clock_of, AreLineAnswers, IsLineAnswer, IsTicked, AreNumbered, IsReceipted}
+use Rattle.amq_cli.specs.Replay.{Answered, commanded, all_commanded, number_behind, placed_at, counted, ticked, clock_of, AreLineAnswers, IsLineAnswer, IsTicked, AreNumbered, IsReceipted, own, rolled}
 use Rattle.amq_cli.specs.Playing.{AreNumbers, AreSteps, AreNumbersOf}
 
 -- ---- lists
@@ -55,12 +58,13 @@ weaker : {X : Type 0} (P Q : X → Type 0) (xs : List X) → ((x : X) → P x �
 weaker P Q xs f all = λ k d lt. f _ (all k d lt)
 
 -- all became durable, with one more receipt
-pub numbers_flushed : (answered : List Answered) (receipts receipts' : List Receipted) (clock appended durable : ℕ) (since : Option ℕ) → AreNumbers answered receipts clock appended durable since → ((n : ℕ) → IsReceipted receipts n → IsReceipted receipts' n) → IsReceipted receipts' appended
-    → AreNumbers answered receipts' clock appended appended None
-numbers_flushed answered receipts receipts' clock appended durable since n more last = record {
+pub numbers_flushed : (opened : ℕ) (answered : List Answered) (receipts receipts' : List Receipted) (clock appended durable : ℕ) (since : Option ℕ) → AreNumbers opened answered receipts clock appended durable since → ((n : ℕ) → IsReceipted receipts n → IsReceipted receipts' n) → IsReceipted receipts' appended
+    → AreNumbers opened answered receipts' clock appended appended None
+numbers_flushed opened answered receipts receipts' clock appended durable since n more last = record {
   time = n.time;
   count = n.count;
   below = n.below;
+  least = omega (arith, n.least, n.most);
   most = omega arith;
   waits = (λ e. refl, λ e. refl);
   first = λ moment is. absurd (let e : None ≡ Some moment = is in cc);
@@ -70,12 +74,13 @@ numbers_flushed answered receipts receipts' clock appended durable since n more 
 }
 
 -- with more receipts
-pub weaker_receipts : (answered : List Answered) (receipts receipts' : List Receipted) (clock appended durable : ℕ) (since : Option ℕ) → AreNumbers answered receipts clock appended durable since → ((n : ℕ) → IsReceipted receipts n → IsReceipted receipts' n) → IsReceipted receipts' durable
-    → AreNumbers answered receipts' clock appended durable since
-weaker_receipts answered receipts receipts' clock appended durable since n more last = record {
+pub weaker_receipts : (opened : ℕ) (answered : List Answered) (receipts receipts' : List Receipted) (clock appended durable : ℕ) (since : Option ℕ) → AreNumbers opened answered receipts clock appended durable since → ((n : ℕ) → IsReceipted receipts n → IsReceipted receipts' n) → IsReceipted receipts' durable
+    → AreNumbers opened answered receipts' clock appended durable since
+weaker_receipts opened answered receipts receipts' clock appended durable since n more last = record {
   time = n.time;
   count = n.count;
   below = n.below;
+  least = n.least;
   most = n.most;
   waits = n.waits;
   first = n.first;
@@ -97,12 +102,13 @@ no_place answered appended front x back place all is at =
     middle appended (filter_map placed_at front) place (filter_map placed_at back) (subst P parts all)
 
 -- one more append
-pub numbers_appended : (answered : List Answered) (x : Answered) (receipts : List Receipted) (clock appended durable : ℕ) (since : Option ℕ) → ticked x ≡ None → placed_at x ≡ Some appended → counted x ≡ None → AreNumbers answered receipts clock appended durable since
-    → AreNumbers (answered ++ x ∷ []) receipts clock (appended + 1) durable (begun clock since)
-numbers_appended answered x receipts clock appended durable since no_tick at no_count n = record {
+pub numbers_appended : (opened : ℕ) (answered : List Answered) (x : Answered) (receipts : List Receipted) (clock appended durable : ℕ) (since : Option ℕ) → ticked x ≡ None → placed_at x ≡ Some appended → counted x ≡ None → AreNumbers opened answered receipts clock appended durable since
+    → AreNumbers opened (answered ++ x ∷ []) receipts clock (appended + 1) durable (begun clock since)
+numbers_appended opened answered x receipts clock appended durable since no_tick at no_count n = record {
   time = n.time ∙ sym (same_clock answered x no_tick);
-  count = ap (λ k. k + 1) n.count ∙ sym (ap length (some_more placed_at answered x appended at) ∙ length-append (filter_map placed_at answered) (appended ∷ []));
+  count = omega (arith, n.count, ap length (some_more placed_at answered x appended at) ∙ length-append (filter_map placed_at answered) (appended ∷ []));
   below = subst (All (λ place. place < appended + 1)) (sym (some_more placed_at answered x appended at)) (All-push (λ place. place < appended + 1) (filter_map placed_at answered) appended (weaker (λ place. place < appended) (λ place. place < appended + 1) (filter_map placed_at answered) (λ place lt. omega (arith, lt)) n.below) (omega arith));
+  least = n.least;
   most = omega (arith, n.most);
   waits = (λ e. absurd (never since e), λ e. absurd (omega (arith, e, n.most)));
   first = by since refl;
@@ -134,12 +140,13 @@ numbers_appended answered x receipts clock appended durable since no_tick at no_
       at_last (inr before) moment_is = n.first moment (some ∙ ap Some moment_is) front y before.0 before.1 place
 
 -- one more line without an append
-pub numbers_answered : (answered : List Answered) (x : Answered) (receipts : List Receipted) (clock clock' appended durable : ℕ) (since : Option ℕ) → clock' ≡ clock_of (answered ++ x ∷ []) → placed_at x ≡ None → (counted x ≡ None) ⊎ (counted x ≡ Some durable) → AreNumbers answered receipts clock appended durable since
-    → AreNumbers (answered ++ x ∷ []) receipts clock' appended durable since
-numbers_answered answered x receipts clock clock' appended durable since time no_place_here count n = record {
+pub numbers_answered : (opened : ℕ) (answered : List Answered) (x : Answered) (receipts : List Receipted) (clock clock' appended durable : ℕ) (since : Option ℕ) → clock' ≡ clock_of (answered ++ x ∷ []) → placed_at x ≡ None → (counted x ≡ None) ⊎ (counted x ≡ Some durable) → AreNumbers opened answered receipts clock appended durable since
+    → AreNumbers opened (answered ++ x ∷ []) receipts clock' appended durable since
+numbers_answered opened answered x receipts clock clock' appended durable since time no_place_here count n = record {
   time = time;
-  count = n.count ∙ ap length (sym (none_more placed_at answered x no_place_here));
+  count = n.count ∙ ap (λ (l : List ℕ). opened + length l) (sym (none_more placed_at answered x no_place_here));
   below = subst (All (λ place. place < appended)) (sym (none_more placed_at answered x no_place_here)) n.below;
+  least = n.least;
   most = n.most;
   waits = n.waits;
   first = λ moment is front y back split place. at_last moment is front y back place (split-snoc answered x front y back split);
@@ -158,9 +165,10 @@ numbers_answered answered x receipts clock clock' appended durable since time no
 -- ---- ticks
 
 -- the count of a tick, behind which the buffer isn't due
-pub tick_waits : (timeout : ℕ) (answered : List Answered) (receipts : List Receipted) (clock appended durable now : ℕ) (since : Option ℕ) → is_due (max clock now) timeout since ≡ false → AreNumbers answered receipts clock appended durable since → IsTicked timeout answered now durable
-tick_waits timeout answered receipts clock appended durable now since not_due n = record {
+pub tick_waits : (opened timeout : ℕ) (answered : List Answered) (receipts : List Receipted) (clock appended durable now : ℕ) (since : Option ℕ) → is_due (max clock now) timeout since ≡ false → AreNumbers opened answered receipts clock appended durable since → IsTicked opened timeout answered now durable
+tick_waits opened timeout answered receipts clock appended durable now since not_due n = record {
   within = omega (arith, n.most, n.count);
+  least = n.least;
   rising = n.counts;
   young = λ front x back split place. by since refl front x back split place;
 } where
@@ -172,21 +180,22 @@ tick_waits timeout answered receipts clock appended durable now since not_due n 
       subst (λ k. max k now - clock_of front < timeout) n.time (subst (λ k. max clock now - k < timeout) at late)
 
 -- the count of a tick that flushed
-pub tick_flushes : (timeout : ℕ) (answered : List Answered) (receipts : List Receipted) (clock appended durable now : ℕ) (since : Option ℕ) → AreNumbers answered receipts clock appended durable since → IsTicked timeout answered now appended
-tick_flushes timeout answered receipts clock appended durable now since n = record {
+pub tick_flushes : (opened timeout : ℕ) (answered : List Answered) (receipts : List Receipted) (clock appended durable now : ℕ) (since : Option ℕ) → AreNumbers opened answered receipts clock appended durable since → IsTicked opened timeout answered now appended
+tick_flushes opened timeout answered receipts clock appended durable now since n = record {
   within = omega (arith, n.count);
+  least = omega (arith, n.least, n.most);
   rising = weaker (λ count. count ≤ durable) (λ count. count ≤ appended) (filter_map counted answered) (λ count le. omega (arith, le, n.most)) n.counts;
   young = λ front x back split place. absurd (omega (arith, no_place answered appended front x back appended n.below split place));
 }
 
 -- ---- answers and steps
 
-answers_from : (timeout : ℕ) (before answered : List Answered) (x : Answered) → AreLineAnswers timeout before answered → IsLineAnswer timeout (before ++ answered) x.0 x.1 → AreLineAnswers timeout before (answered ++ x ∷ [])
-answers_from timeout before [] x all one = (subst (λ (xs : List Answered). IsLineAnswer timeout xs x.0 x.1) (append-nil before) one, tt)
-answers_from timeout before (y ∷ ys) x all one = (all.0, answers_from timeout (before ++ y ∷ []) ys x all.1 (subst (λ (xs : List Answered). IsLineAnswer timeout xs x.0 x.1) (sym (append_assoc before (y ∷ []) ys)) one))
+answers_from : (opened timeout : ℕ) (before answered : List Answered) (x : Answered) → AreLineAnswers opened timeout before answered → IsLineAnswer opened timeout (before ++ answered) x.0 x.1 → AreLineAnswers opened timeout before (answered ++ x ∷ [])
+answers_from opened timeout before [] x all one = (subst (λ (xs : List Answered). IsLineAnswer opened timeout xs x.0 x.1) (append-nil before) one, tt)
+answers_from opened timeout before (y ∷ ys) x all one = (all.0, answers_from opened timeout (before ++ y ∷ []) ys x all.1 (subst (λ (xs : List Answered). IsLineAnswer opened timeout xs x.0 x.1) (sym (append_assoc before (y ∷ []) ys)) one))
 
-pub one_more_answer : (timeout : ℕ) (answered : List Answered) (x : Answered) → AreLineAnswers timeout [] answered → IsLineAnswer timeout answered x.0 x.1 → AreLineAnswers timeout [] (answered ++ x ∷ [])
-one_more_answer timeout answered x all one = answers_from timeout [] answered x all one
+pub one_more_answer : (opened timeout : ℕ) (answered : List Answered) (x : Answered) → AreLineAnswers opened timeout [] answered → IsLineAnswer opened timeout answered x.0 x.1 → AreLineAnswers opened timeout [] (answered ++ x ∷ [])
+one_more_answer opened timeout answered x all one = answers_from opened timeout [] answered x all one
 
 numbered-snoc : (n : ℕ) (steps : List Step) (s : Step) → AreNumbered n steps → s.seat ≡ 1 → s.number ≡ n + length steps → AreNumbered n (steps ++ s ∷ [])
 numbered-snoc n [] s are seat number = (seat, number ∙ omega arith, tt)
@@ -201,17 +210,35 @@ commanded_one_more before (y ∷ ys) x =
       by cs ds None = refl
       by cs ds (Some c) = refl
 
+-- a producer's step behind the others
+own_more : (steps : List Step) (s : Step) → s.seat ≡ 1 → (own (steps ++ s ∷ []) ≡ own steps ++ s ∷ []) × (rolled (steps ++ s ∷ []) ≡ rolled steps)
+own_more steps s seat =
+    let here : own (s ∷ []) ≡ s ∷ [] = ap (λ (n : ℕ). if not (n == 0) then s ∷ [] else []) seat in
+    let none : rolled (s ∷ []) ≡ [] = ap (λ (n : ℕ). if n == 0 then s ∷ [] else []) seat in (
+      filter-append (λ (s : Step). not (s.seat == 0)) steps (s ∷ []) ∙ ap (λ (ss : List Step). own steps ++ ss) here,
+      filter-append (λ (s : Step). s.seat == 0) steps (s ∷ []) ∙ ap (λ (ss : List Step). rolled steps ++ ss) none ∙ append-nil (rolled steps),
+    )
+
 -- a command's step
-pub step_more : (answered : List Answered) (steps : List Step) (number : ℕ) (s : Step) (x : Answered) → AreSteps answered steps number → s.seat ≡ 1 → s.number ≡ number → commanded answered x ≡ Some (s.command, s.answer) → AreSteps (answered ++ x ∷ []) (steps ++ s ∷ []) (number + 1)
-step_more answered steps number s x are seat numbered is = record {
-  commands = map-append (λ (s : Step). (s.command, s.answer)) steps (s ∷ []) ∙ ap (λ cs. cs ++ (s.command, s.answer) ∷ []) are.commands ∙ sym (commanded_one_more [] answered x ∙ ap (λ o. all_commanded [] answered ++ cons_option o []) is);
-  numbered = numbered-snoc 1 steps s are.numbered seat (numbered ∙ are.next ∙ omega arith);
-  next = omega (arith, are.next, length-append steps (s ∷ []));
-}
+pub step_more : (opened : ℕ) (answered : List Answered) (steps : List Step) (number : ℕ) (s : Step) (x : Answered) → AreSteps opened answered steps number → s.seat ≡ 1 → s.number ≡ number → commanded answered x ≡ Some (s.command, s.answer) → AreSteps opened (answered ++ x ∷ []) (steps ++ s ∷ []) (number + 1)
+step_more opened answered steps number s x are seat numbered is =
+    let more = own_more steps s seat in
+    let given : List Step → List (Command × Answer) = map (λ (s : Step). (s.command, s.answer)) in
+    record {
+      rolls = ap (λ (ss : List Step). length (history_of ss)) more.1 ∙ are.rolls;
+      commands = ap given more.0 ∙ map-append (λ (s : Step). (s.command, s.answer)) (own steps) (s ∷ []) ∙ ap (λ cs. cs ++ (s.command, s.answer) ∷ []) are.commands ∙ sym (commanded_one_more [] answered x ∙ ap (λ o. all_commanded [] answered ++ cons_option o []) is);
+      numbered = subst (AreNumbered 1) (sym more.0) (numbered-snoc 1 (own steps) s are.numbered seat (numbered ∙ are.next ∙ omega arith));
+      next = omega (arith, are.next, ap length more.0 ∙ length-append (own steps) (s ∷ []));
+    }
 
 -- a line without a command
-pub steps_same : (answered : List Answered) (steps : List Step) (number : ℕ) (x : Answered) → AreSteps answered steps number → commanded answered x ≡ None → AreSteps (answered ++ x ∷ []) steps number
-steps_same answered steps number x are is = record { commands = are.commands ∙ sym (commanded_one_more [] answered x ∙ ap (λ o. all_commanded [] answered ++ cons_option o []) is ∙ append-nil (all_commanded [] answered)); numbered = are.numbered; next = are.next }
+pub steps_same : (opened : ℕ) (answered : List Answered) (steps : List Step) (number : ℕ) (x : Answered) → AreSteps opened answered steps number → commanded answered x ≡ None → AreSteps opened (answered ++ x ∷ []) steps number
+steps_same opened answered steps number x are is = record {
+  rolls = are.rolls;
+  commands = are.commands ∙ sym (commanded_one_more [] answered x ∙ ap (λ o. all_commanded [] answered ++ cons_option o []) is ∙ append-nil (all_commanded [] answered));
+  numbered = are.numbered;
+  next = are.next;
+}
 
 -- ---- labels
 

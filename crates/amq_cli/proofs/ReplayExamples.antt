@@ -45,23 +45,23 @@ not_at : (m n : ℕ) → m < n → Some m ≡ Some n → ⊥
 not_at m n lt e = let same : m ≡ n = cc in omega (arith, same, lt)
 
 -- they are less than 3 old
-pub nothing_is_due : IsTicked 3 two 2 0
-nothing_is_due = record { within = omega arith; rising = All-nil (λ c. c ≤ 0); young = λ front x back is place. omega arith }
+pub nothing_is_due : IsTicked 0 3 two 2 0
+nothing_is_due = record { within = omega arith; least = omega arith; rising = All-nil (λ c. c ≤ 0); young = λ front x back is place. omega arith }
 
 -- at 3 the first one is due
-pub a_tick_that_does_not_flush : IsTicked 3 two 3 0 → ⊥
+pub a_tick_that_does_not_flush : IsTicked 0 3 two 3 0 → ⊥
 a_tick_that_does_not_flush h = let young : 3 - 0 < 3 = h.young [] (appended add 0) (appended update 1 ∷ []) refl refl in omega (arith, young)
 
 -- and the second one with it, since they came at one time
-pub a_tick_that_flushes_one : IsTicked 3 two 3 1 → ⊥
+pub a_tick_that_flushes_one : IsTicked 0 3 two 3 1 → ⊥
 a_tick_that_flushes_one h = let young : 3 - 0 < 3 = h.young (appended add 0 ∷ []) (appended update 1) [] refl refl in omega (arith, young)
 
-pub all_are_durable : IsTicked 3 two 3 2
-all_are_durable = record { within = omega arith; rising = All-nil (λ c. c ≤ 2); young = λ front x back is place. absurd (one_of (λ y. placed_at y ≡ Some 2 → ⊥) front x back (subst (All (λ y. placed_at y ≡ Some 2 → ⊥)) is each) place) } where
+pub all_are_durable : IsTicked 0 3 two 3 2
+all_are_durable = record { within = omega arith; least = omega arith; rising = All-nil (λ c. c ≤ 2); young = λ front x back is place. absurd (one_of (λ y. placed_at y ≡ Some 2 → ⊥) front x back (subst (All (λ y. placed_at y ≡ Some 2 → ⊥)) is each) place) } where
   each : All (λ y. placed_at y ≡ Some 2 → ⊥) two
   each = All-cons (λ y. placed_at y ≡ Some 2 → ⊥) (appended add 0) (appended update 1 ∷ []) (not_at 0 2 (omega arith)) (All-cons (λ y. placed_at y ≡ Some 2 → ⊥) (appended update 1) [] (not_at 1 2 (omega arith)) (All-nil (λ y. placed_at y ≡ Some 2 → ⊥)))
 
-pub more_than_there_are : IsTicked 3 two 2 3 → ⊥
+pub more_than_there_are : IsTicked 0 3 two 2 3 → ⊥
 more_than_there_are h = let within : 3 ≤ 2 = h.within in omega (arith, within)
 
 -- ---- a tick behind one that was answered 2, and an add
@@ -69,12 +69,24 @@ more_than_there_are h = let within : 3 ≤ 2 = h.within in omega (arith, within)
 abbrev later : List Answered
 later = appended add 0 ∷ appended update 1 ∷ durable 3 2 ∷ appended (c.Delete 1) 2 ∷ []
 
-pub fewer_than_before : IsTicked 3 later 4 1 → ⊥
+pub fewer_than_before : IsTicked 0 3 later 4 1 → ⊥
 fewer_than_before h = let rising : 2 ≤ 1 = All-head (λ c. c ≤ 1) 2 [] h.rising in omega (arith, rising)
 
 -- the delete came behind the tick of 3, so at 6 it is due
-pub the_delete_is_due : IsTicked 3 later 6 2 → ⊥
+pub the_delete_is_due : IsTicked 0 3 later 6 2 → ⊥
 the_delete_is_due h = let young : 6 - 3 < 3 = h.young (appended add 0 ∷ appended update 1 ∷ durable 3 2 ∷ []) (appended (c.Delete 1) 2) [] refl refl in omega (arith, young)
+
+-- ---- a tick behind an opening that rolled back
+
+-- the append of the opening counts
+pub the_rollback_counts : IsTicked 1 3 [] 5 1
+the_rollback_counts = record { within = omega arith; least = omega arith; rising = All-nil (λ c. c ≤ 1); young = λ front x back is place. absurd (none front x back is) } where
+  none : (front : List Answered) (x : Answered) (back : List Answered) → [] ≡ front ++ x ∷ back → ⊥
+  none [] x back e = cc
+  none (f ∷ fs) x back e = cc
+
+pub the_rollback_is_durable : IsTicked 1 3 [] 0 0 → ⊥
+the_rollback_is_durable h = let least : 1 ≤ 0 = h.least in omega (arith, least)
 
 -- ---- three lines and their steps
 
@@ -96,10 +108,20 @@ receipts = record { durable = 0; moment = 5 } ∷ record { durable = 1; moment =
 -- the tick is no step
 pub three_lines : AreAnswered 3 lines (first ∷ second ∷ []) receipts answered
 three_lines = record { front = refl; commands = refl; numbered = (refl, refl, (refl, refl, tt)); receipted = All-cons (IsReceipted receipts) 1 [] refl (All-nil (IsReceipted receipts)); answers = (tt, (ticked, (tt, tt))) } where
-  ticked : IsTicked 3 (appended add 0 ∷ []) 3 1
-  ticked = record { within = omega arith; rising = All-nil (λ c. c ≤ 1); young = λ front x back is place. absurd (one_of (λ y. placed_at y ≡ Some 1 → ⊥) front x back (subst (All (λ y. placed_at y ≡ Some 1 → ⊥)) is each) place) } where
+  ticked : IsTicked 0 3 (appended add 0 ∷ []) 3 1
+  ticked = record { within = omega arith; least = omega arith; rising = All-nil (λ c. c ≤ 1); young = λ front x back is place. absurd (one_of (λ y. placed_at y ≡ Some 1 → ⊥) front x back (subst (All (λ y. placed_at y ≡ Some 1 → ⊥)) is each) place) } where
     each : All (λ y. placed_at y ≡ Some 1 → ⊥) (appended add 0 ∷ [])
     each = All-cons (λ y. placed_at y ≡ Some 1 → ⊥) (appended add 0) [] (not_at 0 1 (omega arith)) (All-nil (λ y. placed_at y ≡ Some 1 → ⊥))
+
+-- behind a rollback of the opening the first append has the place 1
+abbrev rollback : Step
+rollback = record { seat = 0; number = 1; command = c.Rollback 5; answer = Done (Appended 0); placed = Some (record { file = 2; place = 16; compact = 0; rec = rec.Rollback 5 }) }
+
+pub behind_a_rollback : AreAnswered 3 (l.Plain add ∷ []) (rollback ∷ record first { answer = Done (Appended 1) } ∷ []) receipts (appended add 1 ∷ [])
+behind_a_rollback = record { front = refl; commands = refl; numbered = (refl, refl, tt); receipted = All-nil (IsReceipted receipts); answers = (tt, tt) }
+
+pub the_rollback_is_no_line : AreAnswered 3 (l.Plain (c.Rollback 5) ∷ []) (rollback ∷ []) receipts (appended (c.Rollback 5) 0 ∷ []) → ⊥
+the_rollback_is_no_line h = let n : ◌≡◌ {A = ℕ} 0 1 = ap length h.commands in omega (arith, n)
 
 pub a_step_is_missing : AreAnswered 3 lines (first ∷ []) receipts answered → ⊥
 a_step_is_missing h = let n : ◌≡◌ {A = ℕ} 1 2 = ap length h.commands in omega (arith, n)
@@ -155,9 +177,9 @@ cut_short_for_nothing h = by h.answered h.are (is h.whole) where
   first_of [] = Done (Appended 0)
   first_of (y ∷ ys) = y.1
 
-  head : (x : Answered) (xs : List Answered) → x.0 ≡ l.Plain add → IsLineAnswer 3 [] x.0 x.1 → map (λ s. (s.command, s.answer)) (first ∷ []) ≡ all_commanded [] (x ∷ xs) → x.1 ≡ Some (Done (Appended 0))
+  head : (x : Answered) (xs : List Answered) → x.0 ≡ l.Plain add → IsLineAnswer 0 3 [] x.0 x.1 → map (λ s. (s.command, s.answer)) (first ∷ []) ≡ all_commanded [] (x ∷ xs) → x.1 ≡ Some (Done (Appended 0))
   head (line, Some answer) xs e may commands = ap Some (sym (ap first_of (subst (λ v. map (λ s. (s.command, s.answer)) (first ∷ []) ≡ all_commanded [] ((v, Some answer) ∷ xs)) e commands)))
-  head (line, None) xs e may commands = absurd (subst (λ v. IsLineAnswer 3 [] v None) e may)
+  head (line, None) xs e may commands = absurd (subst (λ v. IsLineAnswer 0 3 [] v None) e may)
 
   -- the line of the first one of these
   first_line : List Line → Line

@@ -1,6 +1,6 @@
 -- The text of a run, however it ended.
-use Rattle.std.proofs.Common.{◌≡◌, ◌⊎◌, inl, inr, ℕ, ◌<◌, ◌≤◌, Bool, true, false, List, [], ◌∷◌, ◌++◌, length, Option, None, Some, refl, sym, ap, subst, ◌∙◌, arith}
-use Rattle.std.specs.Prelude.{Err, IsSome}
+use Rattle.std.proofs.Common.{◌≡◌, ◌⊎◌, inl, inr, ℕ, ◌+◌, ◌<◌, ◌≤◌, Bool, true, false, List, [], ◌∷◌, ◌++◌, length, Option, None, Some, refl, sym, ap, subst, ◌∙◌, arith}
+use Rattle.std.specs.Prelude.{Err, IsSome, map, not, ◌==◌, if◌then◌else◌}
 use Rattle.std.proofs.lemmas.List.{append-nil}
 use Rattle.amq_model.specs.declared.script.Line.{Line}
 use Rattle.amq_model.specs.declared.history.Step.{Step}
@@ -10,7 +10,9 @@ use Rattle.amq_model.specs.declared.refusal.Refusal.TheVariants as r
 use Rattle.amq_model.specs.declared.config.Config.{Config}
 use Rattle.amq_model.specs.declared.record.Placed.{Placed}
 use Rattle.amq_model.specs.declared.state.LoadState.{LoadState}
+use Rattle.amq_model.specs.Answers.{history_of}
 use Rattle.amq_model.specs.Calls.{Past}
+use Rattle.amq_model.specs.Legal.{OpensPartly, rolled_back}
 use Rattle.amq_model.specs.Texts.{refusal_line, report_of}
 use Rattle.amq_io.specs.Cause.{Rose, Faults}
 use Rattle.amq_engine.specs.declared.chronicle.Receipted.{Receipted}
@@ -18,14 +20,16 @@ use Rattle.amq_engine.specs.Lists.{Lists}
 use Rattle.amq_model.specs.declared.directory.OpenFault.{OpenFault}
 use Rattle.amq_model.specs.declared.directory.OpenFault.TheVariants as o
 use Rattle.amq_engine.specs.declared.chronicle.Kept.{Kept}
-use Rattle.amq_engine.specs.Engine.{EngineOf, AreBegun, receipted, HasCause}
+use Rattle.amq_engine.specs.Engine.{EngineOf, receipted, HasCause}
+use Rattle.amq_engine.specs.Opening.{AreRolledBack, HasOpenCause}
+use Rattle.amq_engine.specs.Receipts.{IsLastCount}
 use Rattle.amq_cli.specs.declared.status.Status.{Status}
 use Rattle.amq_cli.specs.declared.status.Status.TheVariants as s
 use Rattle.amq_cli.specs.Statuses.{status_of, status_of_opening}
-use Rattle.amq_cli.specs.Playing.{AreSteps, HasPlayed}
-use Rattle.amq_cli.specs.Offline.{lists_of, HasText, HasRunOn, IsEnding, IsDiskLine, IsLoadedState, AreAll, HasDiskCause}
-use Rattle.amq_cli.specs.Replay.{Answered, reply_lines, AreAnswered, HasEnded, HasReplayed, IsReceipted, IsLast, IsClosedBy, is_for_memory}
-use Rattle.amq_cli.proofs.Answering.{no_step}
+use Rattle.amq_cli.specs.Playing.{HasPlayed}
+use Rattle.amq_cli.specs.Offline.{HasText, HasRunOn, IsEnding, IsDiskLine, IsLoadedState, AreAll, HasDiskCause, HasRunCause, is_of_refused}
+use Rattle.amq_cli.specs.Replay.{Answered, reply_lines, AreAnswered, AreNumbered, HasEnded, HasReplayed, IsLast, IsClosedBy, is_for_memory, own, rolled}
+use Rattle.amq_cli.proofs.Answering.{no_step, last_receipted}
 use Rattle.amq_cli.proofs.Ending.{answered_more}
 
 module _ (timeout : ℕ) (lines : List Line) (old new : Lists) (b : Bool) (appended moment : ℕ) (closed : Some new ≡ receipted b appended moment (Some old)) where
@@ -129,6 +133,8 @@ reported_text config s.NoMemory lines first last was now base steps receipts bef
 reported_text config s.SourceFault lines first last was now base steps receipts before after past replayed ran unreported cause = absurd cause
 reported_text config s.SinkFault lines first last was now base steps receipts before after past replayed ran unreported cause = absurd cause
 reported_text config (s.InputTooLong limit) lines first last was now base steps receipts before after past replayed ran unreported cause = absurd cause
+reported_text config (s.Directory fault) lines first last was now base steps receipts before after past replayed ran unreported cause = absurd cause
+reported_text config (s.FileIdsSpent highest) lines first last was now base steps receipts before after past replayed ran unreported cause = absurd cause
 reported_text config (s.NotBuilt part) lines first last was now base steps receipts before after past replayed ran unreported cause = absurd cause
 
 -- a refusal for a disk call names the one that failed last, also behind a closing that makes no call
@@ -164,6 +170,8 @@ earlier_ending s.NoMemory Loaded was first now lines answered ending le (inr (in
 earlier_ending s.NoMemory Loaded was first now lines answered ending le (inr (inr report)) = inr (inr report)
 earlier_ending s.SourceFault Loaded was first now lines answered ending le ends = ends
 earlier_ending (s.InputTooLong limit) Loaded was first now lines answered ending le ends = ends
+earlier_ending (s.Directory fault) Loaded was first now lines answered ending le ends = ends
+earlier_ending (s.FileIdsSpent highest) Loaded was first now lines answered ending le ends = ends
 earlier_ending (s.NotBuilt part) Loaded was first now lines answered ending le ends = ends
 
 -- what failed since the opening failed in the run
@@ -180,11 +188,22 @@ earlier_text timeout status Loaded lines was first now steps receipts text le ha
 
 -- ---- at first
 
-none_answered : (timeout : ℕ) (lines : List Line) (steps : List Step) (receipts : List Receipted) → steps ≡ [] → AreAnswered timeout lines steps receipts []
-none_answered timeout lines steps receipts none = subst (λ ss. AreAnswered timeout lines ss receipts []) (sym none) (record { front = refl; commands = refl; numbered = tt; receipted = λ k d lt. absurd (omega (arith, lt)); answers = tt })
+-- the steps of an opening alone
+pub opens_partly : (n : ℕ) (txs : List ℕ) (steps : List Step) → OpensPartly n txs steps → (own steps ≡ []) × (rolled steps ≡ steps)
+opens_partly n txs [] opens = (refl, refl)
+opens_partly n [] (x ∷ xs) opens = absurd opens
+opens_partly n (tx ∷ txs) (x ∷ xs) opens =
+    let rest = opens_partly (n + 1) txs xs opens.1 in
+    let seat : x.seat ≡ 0 = opens.0.seat in (
+      ap (λ (k : ℕ). if not (k == 0) then x ∷ own xs else own xs) seat ∙ rest.0,
+      ap (λ (k : ℕ). if k == 0 then x ∷ rolled xs else rolled xs) seat ∙ ap (λ (ss : List Step). x ∷ ss) rest.1,
+    )
+
+none_answered : (timeout : ℕ) (lines : List Line) (steps : List Step) (receipts : List Receipted) → own steps ≡ [] → AreAnswered timeout lines steps receipts []
+none_answered timeout lines steps receipts none = record { front = refl; commands = ap (map (λ (s : Step). (s.command, s.answer))) none; numbered = subst (AreNumbered 1) (sym none) tt; receipted = λ k d lt. absurd (omega (arith, lt)); answers = tt }
 
 -- where the journal wasn't opened
-pub unopened_text : (timeout : ℕ) (status : Status) (Loaded : LoadState → Type 0) (lines : List Line) (was now : Faults) (steps : List Step) (receipts : List Receipted) (text : List ℕ) → steps ≡ [] → text ≡ [] → IsEnding status Loaded was now lines [] [] → HasText timeout status Loaded lines was now steps receipts text
+pub unopened_text : (timeout : ℕ) (status : Status) (Loaded : LoadState → Type 0) (lines : List Line) (was now : Faults) (steps : List Step) (receipts : List Receipted) (text : List ℕ) → own steps ≡ [] → text ≡ [] → IsEnding status Loaded was now lines [] [] → HasText timeout status Loaded lines was now steps receipts text
 unopened_text timeout status Loaded lines was now steps receipts text none empty ends = record { answered = []; are = none_answered timeout lines steps receipts none; ending = []; ends = ends; rest = []; is = append-nil text ∙ empty; whole = inr refl }
 
 pub opening_ends : (fault : OpenFault) (Loaded : LoadState → Type 0) (was now : Faults) (lines : List Line) → IsEnding (status_of_opening fault) Loaded was now lines [] []
@@ -194,26 +213,52 @@ opening_ends (o.Directory fault) Loaded was now lines = (refl, refl)
 opening_ends (o.FileIdsSpent highest) Loaded was now lines = (refl, refl)
 opening_ends o.NotBuilt Loaded was now lines = (refl, refl)
 
+-- why a run ended whose opening was refused
+pub opening_cause : (config : Config) (lists : Lists) (fault : OpenFault) (old new : Option Past) (was now : Faults) → HasOpenCause config fault (Some lists) old new was now → HasRunCause config lists (status_of_opening fault) old new was now
+opening_cause config lists (o.Disk call) old new was now cause = cause.0
+opening_cause config lists o.NoMemory old new was now cause = tt
+opening_cause config lists (o.Directory fault) old new was now cause = (cause.0, cause.1)
+opening_cause config lists (o.FileIdsSpent highest) old new was now cause = cause
+opening_cause config lists o.NotBuilt old new was now cause = (cause.0, cause.1)
+
+pub opening_refused : (fault : OpenFault) → is_of_refused (status_of_opening fault) ≡ true
+opening_refused (o.Disk call) = refl
+opening_refused o.NoMemory = refl
+opening_refused (o.Directory fault) = refl
+opening_refused (o.FileIdsSpent highest) = refl
+opening_refused o.NotBuilt = refl
+
 -- of an engine that was just opened
-pub begun_played : {D : Type 0} (timeout : ℕ) (e : EngineOf D Kept) (text : List ℕ) (moment : ℕ) → e.appended ≡ 0 → e.durable ≡ 0 → e.since ≡ None → e.clock ≡ 0 → AreBegun moment (lists_of e.chronicle) → text ≡ [] → HasPlayed timeout [] (λ label. 0) 1 e text
-begun_played timeout e text moment appended durable since clock begun empty = record {
-  answered = [];
-  lines = refl;
-  playing = record {
-    numbers = record {
-      time = clock;
-      count = appended;
-      below = λ k d lt. absurd (omega (arith, lt));
-      most = omega (arith, appended, durable);
-      waits = (λ none. durable ∙ sym appended, λ all. since);
-      first = λ at is front x back split place. absurd (let none : None ≡ Some at = sym since ∙ is in cc);
-      counts = λ k d lt. absurd (omega (arith, lt));
-      receipted = λ k d lt. absurd (omega (arith, lt));
-      last = subst (λ rs. IsReceipted rs e.durable) (sym begun.receipts) (subst (λ n. IsReceipted (record { durable = 0; moment = moment } ∷ []) n) (sym durable) refl);
-    };
-    steps = subst (λ ss. AreSteps [] ss 1) (sym begun.steps) (record { commands = refl; numbered = tt; next = refl });
-    answers = tt;
-  };
-  labelled = λ label. refl;
-  is = empty;
-}
+pub begun_played : {D : Type 0} (timeout : ℕ) (e : EngineOf D Kept) (base : List Placed) (text : List ℕ) → e.durable ≡ e.appended → e.since ≡ None → e.clock ≡ 0 → e.appended ≡ length (history_of e.chronicle.steps.items) → AreRolledBack base e.chronicle.steps.items → IsLastCount e.durable e.chronicle.receipts.items → text ≡ []
+    → HasPlayed timeout [] (λ label. 0) 1 e text
+begun_played timeout e base text durable since clock history rolls last empty =
+    let steps : List Step = e.chronicle.steps.items in
+    let opens = opens_partly 1 (rolled_back base) steps rolls.2 in
+    record {
+      answered = [];
+      lines = refl;
+      playing = record {
+        opened = e.appended;
+        numbers = record {
+          time = clock;
+          count = omega arith;
+          below = λ k d lt. absurd (omega (arith, lt));
+          least = omega (arith, durable);
+          most = omega (arith, durable);
+          waits = (λ none. durable, λ all. since);
+          first = λ at is front x back split place. absurd (let none : None ≡ Some at = sym since ∙ is in cc);
+          counts = λ k d lt. absurd (omega (arith, lt));
+          receipted = λ k d lt. absurd (omega (arith, lt));
+          last = last_receipted e.durable e.chronicle.receipts.items last;
+        };
+        steps = record {
+          rolls = ap (λ (ss : List Step). length (history_of ss)) opens.1 ∙ sym history;
+          commands = ap (map (λ (s : Step). (s.command, s.answer))) opens.0;
+          numbered = subst (AreNumbered 1) (sym opens.0) tt;
+          next = sym (ap (λ (ss : List Step). length ss + 1) opens.0);
+        };
+        answers = tt;
+      };
+      labelled = λ label. refl;
+      is = empty;
+    }

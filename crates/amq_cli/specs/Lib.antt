@@ -7,5 +7,4 @@ pub mod Playing
 pub mod Labelled
 pub mod Outcomes
 pub mod Script
-pub mod Loaded
 pub mod Offline

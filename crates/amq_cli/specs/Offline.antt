@@ -1,21 +1,25 @@
 -- What the program's commands leave.
-use Rattle.std.specs.Prelude.{◌≡◌, ◌⊎◌, ℕ, ◌<◌, ◌≤◌, Bool, true, false, List, [], ◌++◌, length, Option, None, Some, option_map, IfSome}
+use Rattle.std.specs.Prelude.{◌≡◌, ◌⊎◌, ℕ, ◌<◌, ◌≤◌, Bool, true, false, List, [], ◌∷◌, ◌++◌, length, Option, None, Some, option_map, IfSome}
 use Rattle.std.specs.FinMap as finite
 use Rattle.amq_model.specs.declared.script.Line.{Line}
+use Rattle.amq_model.specs.declared.script.Line.TheVariants as l
 use Rattle.amq_model.specs.declared.config.Config.{Config}
-use Rattle.amq_model.specs.declared.directory.Control.{Control}
+use Rattle.amq_model.specs.declared.directory.OpenFault.TheVariants as o
+use Rattle.amq_model.specs.Legal.{AreLegal, AreLegalOfRefused}
 use Rattle.amq_model.specs.declared.history.Step.{Step}
 use Rattle.amq_model.specs.declared.record.Placed.{Placed}
 use Rattle.amq_model.specs.declared.state.LoadState.{LoadState}
 use Rattle.amq_model.specs.Answers.{history_of}
-use Rattle.amq_model.specs.Calls.{Past}
-use Rattle.amq_model.specs.Directory.{IsRead, Loads}
+use Rattle.amq_model.specs.Calls.{Past, content}
+use Rattle.amq_model.specs.Directory.{Loads}
 use Rattle.amq_model.specs.Effect.{result_of}
 use Rattle.amq_model.specs.Files.{Files, Image, IsReading}
-use Rattle.amq_model.specs.Leaves.{Told}
+use Rattle.amq_model.specs.Leaves.{Told, OnlyAsks, IsThere}
+use Rattle.amq_model.specs.Names.{control_name}
 use Rattle.amq_model.specs.Texts.{report_of, refusal_line}
 use Rattle.amq_io.specs.Cause.{Rose, Faults}
-use Rattle.amq_engine.specs.Directory.{IsEmpty}
+use Rattle.amq_loader.specs.Loads.{IsFaulty, IsStateOf}
+use Rattle.amq_engine.specs.Opening.{HasBase, HasOpenCause}
 use Rattle.amq_engine.specs.Lists.{Lists}
 use Rattle.amq_engine.specs.declared.chronicle.Kept.{Kept}
 use Rattle.amq_engine.specs.declared.chronicle.Receipted.{Receipted}
@@ -24,7 +28,8 @@ use Rattle.amq_model.specs.declared.refusal.Refusal.TheVariants as r
 use Rattle.amq_cli.specs.declared.status.Status.{Status}
 use Rattle.amq_cli.specs.declared.status.Status.TheVariants as s
 use Rattle.amq_cli.specs.declared.status.Unbuilt.TheVariants as u
-use Rattle.amq_cli.specs.Loaded.{IsLoaded, content_of}
+use Rattle.amq_cli.specs.declared.words.Task.{Task}
+use Rattle.amq_cli.specs.declared.words.Task.TheVariants as t
 use Rattle.amq_cli.specs.Output.{IsPartWritten}
 use Rattle.amq_cli.specs.Replay.{Answered, AreAnswered, HasReplayed, reply_lines, script_lines}
 use Rattle.amq_cli.specs.Script.{IsSaid, input_limit}
@@ -39,12 +44,9 @@ lists_of kept = record { base = kept.base; steps = kept.steps.items; receipts = 
 
 -- ---- what a directory holds
 
--- these are the records of its data files, one file behind the other
-pub record HasBase (base : List Placed) (s : Files) : Type 0 where
-  pub image : Image
-  pub reading : IsReading s image
-  pub control : Option Control
-  pub read : IsRead (finite.entries image) control base
+-- what a disk reads, if it tells its content
+abbrev pub content_of : Option Past → Option Files
+content_of past = option_map (λ p. content p.start p.calls) past
 
 -- it loads, to the result of the base and then the history of the steps, and this is that state
 pub record LoadsTo (user_version : ℕ) (base : List Placed) (steps : List Step) (state : LoadState) (s : Files) : Type 0 where
@@ -67,17 +69,16 @@ pub record HasRunOn (config : Config) (lines : List Line) (text : List ℕ) (pas
   pub reported : text ≡ replies ++ report_of state
   pub loaded : Told past (LoadsTo config.user_version base steps state)
 
--- the same of a run that began with an empty directory, whose base is therefore this
+-- the same of a run that began with a directory of this base
 pub record HasRun (config : Config) (lines : List Line) (text : List ℕ) (old new : Option Past) (base : List Placed) (steps : List Step) (receipts : List Receipted) : Type 0 where
-  pub empty : Told old IsEmpty
-  pub began : Told old (HasBase base)
+  pub began : Told old (HasBase config.user_version base)
   pub ran : HasRunOn config lines text new base steps receipts
 
--- the report of what was loaded of the files up to the last is added, and the directory is as it was
-pub record IsReported (last : ℕ) (before after : List ℕ) (old new : Option Past) : Type 0 where
+-- the report of what the directory loads to is added, and the directory is as it was
+pub record IsReported (user_version : ℕ) (before after : List ℕ) (old new : Option Past) : Type 0 where
   pub state : LoadState
   pub lines : after ≡ before ++ report_of state
-  pub loaded : Told old (λ s. (user_version : ℕ) (all : ℕ) → IsLoaded user_version last all state s)
+  pub loaded : Told old (IsStateOf user_version state)
   pub same : content_of new ≡ content_of old
 
 -- why a run on an open journal ended so
@@ -87,10 +88,25 @@ HasDiskCause s.DiskFault was now = Rose was.0 now.0
 HasDiskCause s.NoMemory was now = Unit {0}
 HasDiskCause _ was now = ⊥
 
--- why a run on a disk ended so; where a file was there, it is as it was
-abbrev pub HasRunCause : Status → Option Past → Option Past → Faults → Faults → Type 0
-HasRunCause (s.NotBuilt u.Directory) old new was now = (content_of new ≡ content_of old) × Told old (λ s. IsEmpty s → ⊥)
-HasRunCause status old new was now = HasDiskCause status was now
+-- Why a run on a disk ended so. Where the directory has a fault or a control file, it was only asked; where no number is left for a file, the opening was refused for it.
+abbrev pub HasRunCause : Config → Lists → Status → Option Past → Option Past → Faults → Faults → Type 0
+HasRunCause config lists (s.Directory fault) old new was now = OnlyAsks old new × Told old (IsFaulty config.user_version fault)
+HasRunCause config lists (s.NotBuilt u.Directory) old new was now = OnlyAsks old new × Told old (IsThere control_name)
+HasRunCause config lists (s.FileIdsSpent highest) old new was now = HasOpenCause config (o.FileIdsSpent highest) (Some lists) old new was now
+HasRunCause config lists status old new was now = HasDiskCause status was now
+
+-- with this status an opening may have been refused
+abbrev pub is_of_refused : Status → Bool
+is_of_refused s.DiskFault = true
+is_of_refused (s.Directory fault) = true
+is_of_refused s.NoMemory = true
+is_of_refused (s.FileIdsSpent highest) = true
+is_of_refused (s.NotBuilt u.Directory) = true
+is_of_refused _ = false
+
+-- The steps are a legal history; or the opening was refused, the steps are the first of its rollbacks alone, and nothing is written.
+abbrev pub HasLegal : Status → Config → List Placed → List Step → Type 0 → Type 0
+HasLegal status config base steps Silent = AreLegal base steps config ⊎ ((is_of_refused status ≡ true) × AreLegalOfRefused base steps config × Silent)
 
 -- all lines were answered
 abbrev pub AreAll : List Line → List Answered → Type 0
@@ -111,6 +127,8 @@ IsEnding s.SinkFault Loaded was now lines answered ending = IsReport Loaded line
 IsEnding s.DiskFault Loaded was now lines answered ending = ((ending ≡ []) × ((answered ≡ []) ⊎ AreAll lines answered)) ⊎ IsDiskLine was now lines answered ending
 IsEnding s.NoMemory Loaded was now lines answered ending = (ending ≡ []) ⊎ IsDiskLine was now lines answered ending ⊎ IsReport Loaded lines answered ending
 IsEnding s.SourceFault Loaded was now lines answered ending = (ending ≡ []) × (answered ≡ [])
+IsEnding (s.Directory fault) Loaded was now lines answered ending = (ending ≡ []) × (answered ≡ [])
+IsEnding (s.FileIdsSpent highest) Loaded was now lines answered ending = (ending ≡ []) × (answered ≡ [])
 IsEnding (s.InputTooLong limit) Loaded was now lines answered ending = (ending ≡ []) × (answered ≡ [])
 IsEnding (s.NotBuilt part) Loaded was now lines answered ending = (ending ≡ []) × (answered ≡ [])
 
@@ -139,42 +157,99 @@ IsWritten text old new = new ≡ option_map (λ taken. taken ++ text) old
 abbrev pub IsEnd : Status → Status → ℕ → ℕ → Type 0
 IsEnd status outcome old new = (status ≡ outcome) ⊎ (status ≡ s.NoMemory) ⊎ ((status ≡ s.SinkFault) × (outcome ≡ s.Ok) × Rose old new)
 
--- What a run with status 0 has done: the source is read whole, its lines are answered, and the sink has the text. Where only the sink failed all is the same but for that.
-pub record IsRun (Writes : List ℕ → Option (List ℕ) → Option (List ℕ) → Type 0) (config : Config) (left_old left_new : Option (List ℕ)) (past_old past_new : Option Past) (taken_old taken_new : Option (List ℕ)) (base : List Placed) (steps : List Step) (receipts : List Receipted) : Type 0 where
+-- the lines of what was asked for: those that the source held, all of which is read; or the one that settles a transaction, and the source isn't read
+abbrev pub HasLines : Option Task → List Line → Option (List ℕ) → Option (List ℕ) → Type 0
+HasLines (Some t.Replay) lines left_old left_new = IsSaid lines left_old left_new
+HasLines (Some (t.Settle command)) lines left_old left_new = (lines ≡ l.Plain command ∷ []) × (left_new ≡ left_old)
+HasLines (Some t.Print) lines left_old left_new = ⊥
+HasLines None lines left_old left_new = ⊥
+
+-- there are such lines
+abbrev pub IsScript : Option Task → Option (List ℕ) → Option (List ℕ) → Type 0
+IsScript task old new = (lines : List Line) × HasLines task lines old new
+
+-- these lines were run, and the sink has their text
+abbrev pub IsPlayed : (List ℕ → Option (List ℕ) → Option (List ℕ) → Type 0) → Config → List Line → Option Past → Option Past → Option (List ℕ) → Option (List ℕ) → List Placed → List Step → List Receipted → Type 0
+IsPlayed Writes config lines past_old past_new taken_old taken_new base steps receipts = (text : List ℕ) × HasRun config lines text past_old past_new base steps receipts × Writes text taken_old taken_new
+
+-- What a run with status 0 has done: the lines of what was asked for are answered, and the sink has the text. Where only the sink failed all is the same but for that.
+pub record IsRun (Writes : List ℕ → Option (List ℕ) → Option (List ℕ) → Type 0) (task : Option Task) (config : Config) (left_old left_new : Option (List ℕ)) (past_old past_new : Option Past) (taken_old taken_new : Option (List ℕ)) (base : List Placed) (steps : List Step) (receipts : List Receipted) : Type 0 where
   pub lines : List Line
-  pub said : IsSaid lines left_old left_new
-  pub text : List ℕ
-  pub ran : HasRun config lines text past_old past_new base steps receipts
-  pub written : Writes text taken_old taken_new
+  pub said : HasLines task lines left_old left_new
+  pub played : IsPlayed Writes config lines past_old past_new taken_old taken_new base steps receipts
 
 -- the script was read
 abbrev pub is_past_script : Status → Bool
 is_past_script s.Ok = true
 is_past_script s.SinkFault = true
 is_past_script s.DiskFault = true
+is_past_script (s.Directory fault) = true
+is_past_script (s.FileIdsSpent highest) = true
 is_past_script (s.NotBuilt u.Directory) = true
 is_past_script _ = false
 
--- What was written, with every status: a front of the text of a run of the source's lines, and all of it unless the sink failed or memory was short. Where the script wasn't read there is no line and no text.
-pub record IsOutput (timeout : ℕ) (status : Status) (Loaded : LoadState → Type 0) (left_old left_new : Option (List ℕ)) (was now : Faults) (sink_old sink_new : ℕ) (taken_old taken_new : Option (List ℕ)) (steps : List Step) (receipts : List Receipted) : Type 0 where
-  pub lines : List Line
+-- What was written of a run of these lines, with every status: a front of its text, and all of it unless the sink failed or memory was short.
+pub record IsTextOf (timeout : ℕ) (status : Status) (Loaded : LoadState → Type 0) (lines : List Line) (was now : Faults) (sink_old sink_new : ℕ) (taken_old taken_new : Option (List ℕ)) (steps : List Step) (receipts : List Receipted) : Type 0 where
   pub text : List ℕ
-  pub said : ((is_past_script status ≡ false) × (lines ≡ []) × (text ≡ [])) ⊎ IsSaid lines left_old left_new
   pub has : HasText timeout status Loaded lines was now steps receipts text
   pub part : IsPartWritten text taken_old taken_new
   pub whole : IsWritten text taken_old taken_new ⊎ Rose sink_old sink_new ⊎ (is_short status ≡ true)
 
+-- What was written, with every status, by a command that opens the journal: a front of the text of a run of its lines, and all of it unless the sink failed or memory was short. Where the script wasn't read there is no line and no text.
+pub record IsOutput (task : Option Task) (timeout : ℕ) (status : Status) (Loaded : LoadState → Type 0) (left_old left_new : Option (List ℕ)) (was now : Faults) (sink_old sink_new : ℕ) (taken_old taken_new : Option (List ℕ)) (steps : List Step) (receipts : List Receipted) : Type 0 where
+  pub lines : List Line
+  pub written : IsTextOf timeout status Loaded lines was now sink_old sink_new taken_old taken_new steps receipts
+  pub said : ((is_past_script status ≡ false) × (lines ≡ []) × (written.text ≡ [])) ⊎ HasLines task lines left_old left_new
+
+-- what `print` wrote: nothing more, where it has no report
+abbrev pub IsSilent : Option (List ℕ) → Option (List ℕ) → Type 0
+IsSilent taken_old taken_new = taken_new ≡ taken_old
+
+-- the report of a state that the directory loads to was written so
+abbrev pub IsReportWritten : (List ℕ → Option (List ℕ) → Option (List ℕ) → Type 0) → ℕ → Option Past → Option (List ℕ) → Option (List ℕ) → Type 0
+IsReportWritten Writes wanted past taken_old taken_new = (state : LoadState) × Told past (IsStateOf wanted state) × Writes (report_of state) taken_old taken_new
+
+-- What `print` wrote with this status: the whole report with 0, a front of it where the sink failed, a front or nothing where memory was short, and nothing else. Where it isn't built a file has the control file's name.
+abbrev pub IsPrinted : Status → ℕ → Option Past → Option (List ℕ) → Option (List ℕ) → Type 0
+IsPrinted s.Ok wanted past taken_old taken_new = IsReportWritten IsWritten wanted past taken_old taken_new
+IsPrinted s.SinkFault wanted past taken_old taken_new = IsReportWritten IsPartWritten wanted past taken_old taken_new
+IsPrinted s.NoMemory wanted past taken_old taken_new = IsReportWritten IsPartWritten wanted past taken_old taken_new ⊎ IsSilent taken_old taken_new
+IsPrinted s.DiskFault wanted past taken_old taken_new = IsSilent taken_old taken_new
+IsPrinted (s.Directory fault) wanted past taken_old taken_new = Told past (IsFaulty wanted fault) × IsSilent taken_old taken_new
+IsPrinted (s.NotBuilt u.Directory) wanted past taken_old taken_new = Told past (IsThere control_name) × IsSilent taken_old taken_new
+IsPrinted _ wanted past taken_old taken_new = ⊥
+
+-- why `print` ended so, by how often calls had failed
+abbrev pub HasPrintCause : Status → ℕ → ℕ → Faults → Faults → Type 0
+HasPrintCause s.SinkFault sink sink' disk disk' = Rose sink sink'
+HasPrintCause s.DiskFault sink sink' disk disk' = Rose disk.0 disk'.0
+HasPrintCause _ sink sink' disk disk' = Unit {0}
+
+-- What `print` does, with every status: it makes no disk call but list and read, and opens nothing.
+pub record IsPrint (status : Status) (wanted : ℕ) (past_old past_new : Option Past) (taken_old taken_new : Option (List ℕ)) (steps : List Step) (receipts : List Receipted) : Type 0 where
+  pub asks : OnlyAsks past_old past_new
+  pub written : IsPrinted status wanted past_old taken_old taken_new
+  pub no_steps : steps ≡ []
+  pub no_receipts : receipts ≡ []
+
 -- Why a run ended so, by what the source had left, what the directory was, and how often calls had failed. The words have a clause of their own.
-abbrev pub HasCause : Status → Option (List ℕ) → Option Past → Option Past → ℕ → ℕ → ℕ → ℕ → Faults → Faults → Type 0
-HasCause s.Ok left old new source source' sink sink' disk disk' = Unit {0}
-HasCause s.SourceFault left old new source source' sink sink' disk disk' = Rose source source'
-HasCause s.SinkFault left old new source source' sink sink' disk disk' = Rose sink sink'
-HasCause s.DiskFault left old new source source' sink sink' disk disk' = Rose disk.0 disk'.0
-HasCause s.NoMemory left old new source source' sink sink' disk disk' = Unit {0}
-HasCause (s.InputTooLong limit) left old new source source' sink sink' disk disk' = (limit ≡ input_limit) × IfSome left (λ bytes. input_limit < length bytes)
-HasCause (s.NotBuilt u.Words) left old new source source' sink sink' disk disk' = Unit {0}
-HasCause (s.NotBuilt u.Script) left old new source source' sink sink' disk disk' = IfSome left (λ bytes. (length bytes ≤ input_limit) × (script_lines bytes ≡ None))
-HasCause (s.NotBuilt u.Directory) left old new source source' sink sink' disk disk' = (content_of new ≡ content_of old) × Told old (λ s. IsEmpty s → ⊥)
+abbrev pub HasCause : Config → Lists → Status → Option (List ℕ) → Option Past → Option Past → ℕ → ℕ → ℕ → ℕ → Faults → Faults → Type 0
+HasCause config lists s.Ok left old new source source' sink sink' disk disk' = Unit {0}
+HasCause config lists s.SourceFault left old new source source' sink sink' disk disk' = Rose source source'
+HasCause config lists s.SinkFault left old new source source' sink sink' disk disk' = Rose sink sink'
+HasCause config lists s.DiskFault left old new source source' sink sink' disk disk' = Rose disk.0 disk'.0
+HasCause config lists (s.Directory fault) left old new source source' sink sink' disk disk' = OnlyAsks old new × Told old (IsFaulty config.user_version fault)
+HasCause config lists s.NoMemory left old new source source' sink sink' disk disk' = Unit {0}
+HasCause config lists (s.FileIdsSpent highest) left old new source source' sink sink' disk disk' = HasOpenCause config (o.FileIdsSpent highest) (Some lists) old new disk disk'
+HasCause config lists (s.InputTooLong limit) left old new source source' sink sink' disk disk' = (limit ≡ input_limit) × IfSome left (λ bytes. input_limit < length bytes)
+HasCause config lists (s.NotBuilt u.Words) left old new source source' sink sink' disk disk' = Unit {0}
+HasCause config lists (s.NotBuilt u.Script) left old new source source' sink sink' disk disk' = IfSome left (λ bytes. (length bytes ≤ input_limit) × (script_lines bytes ≡ None))
+HasCause config lists (s.NotBuilt u.Directory) left old new source source' sink sink' disk disk' = OnlyAsks old new × Told old (IsThere control_name)
+
+-- the same of a run of lines whose text was written
+abbrev pub HasPlayCause : Config → Lists → Status → Option Past → Option Past → ℕ → ℕ → Faults → Faults → Type 0
+HasPlayCause config lists s.SinkFault old new sink sink' disk disk' = Rose sink sink'
+HasPlayCause config lists status old new sink sink' disk disk' = HasRunCause config lists status old new disk disk'
 
 -- no call of the disk was made
 abbrev pub is_before_opening : Status → Bool
@@ -187,6 +262,8 @@ is_before_opening _ = false
 -- nothing was written
 abbrev pub is_unwritten : Status → Bool
 is_unwritten s.SourceFault = true
+is_unwritten (s.Directory fault) = true
+is_unwritten (s.FileIdsSpent highest) = true
 is_unwritten (s.InputTooLong limit) = true
 is_unwritten (s.NotBuilt part) = true
 is_unwritten _ = false

@@ -7,7 +7,7 @@ use Rattle.amq_engine.specs.declared.chronicle.Kept.{Kept}
 use Rattle.amq_engine.specs.declared.chronicle.Receipted.{Receipted}
 use Rattle.amq_engine.specs.Lists.{Lists}
 use Rattle.amq_engine.specs.Engine.{EngineOf}
-use Rattle.amq_cli.specs.Replay.{Answered, all_commanded, label_number, placed_at, counted, clock_of, reply_lines, AreLineAnswers, AreNumbered, IsReceipted}
+use Rattle.amq_cli.specs.Replay.{Answered, all_commanded, label_number, placed_at, counted, clock_of, reply_lines, AreLineAnswers, AreNumbered, IsReceipted, own, opened_in}
 
 -- the same receipts, or one more
 abbrev pub Grows : List Receipted → List Receipted → Type 0
@@ -18,11 +18,12 @@ pub record HasNoStep (old new : Lists) : Type 0 where
   pub steps : new.steps ≡ old.steps
   pub receipts : Grows old.receipts new.receipts
 
--- The numbers of the engine behind these lines: its clock, how many appends there were and how many are durable, and since when the first of the others waits.
-pub record AreNumbers (answered : List Answered) (receipts : List Receipted) (clock appended durable : ℕ) (since : Option ℕ) : Type 0 where
+-- The numbers of the engine behind the appends of its opening and these lines: its clock, how many appends there were and how many are durable, and since when the first of the others waits.
+pub record AreNumbers (opened : ℕ) (answered : List Answered) (receipts : List Receipted) (clock appended durable : ℕ) (since : Option ℕ) : Type 0 where
   pub time : clock ≡ clock_of answered
-  pub count : appended ≡ length (filter_map placed_at answered)
+  pub count : appended ≡ opened + length (filter_map placed_at answered)
   pub below : All (λ place. place < appended) (filter_map placed_at answered)
+  pub least : opened ≤ durable
   pub most : durable ≤ appended
   pub waits : (since ≡ None) ↔ (durable ≡ appended)
   pub first : (moment : ℕ) → since ≡ Some moment → (front : List Answered) (x : Answered) (back : List Answered) → answered ≡ front ++ x ∷ back → placed_at x ≡ Some durable → moment ≡ clock_of front
@@ -30,17 +31,19 @@ pub record AreNumbers (answered : List Answered) (receipts : List Receipted) (cl
   pub receipted : All (IsReceipted receipts) (filter_map counted answered)
   pub last : IsReceipted receipts durable
 
--- The steps are those of these lines, and this is the number of the next one.
-pub record AreSteps (answered : List Answered) (steps : List Step) (number : ℕ) : Type 0 where
-  pub commands : map (λ s. (s.command, s.answer)) steps ≡ all_commanded [] answered
-  pub numbered : AreNumbered 1 steps
-  pub next : number ≡ length steps + 1
+-- The steps are those of an opening with so many appends, and those of these lines, and this is the number of the next one.
+pub record AreSteps (opened : ℕ) (answered : List Answered) (steps : List Step) (number : ℕ) : Type 0 where
+  pub rolls : opened_in steps ≡ opened
+  pub commands : map (λ s. (s.command, s.answer)) (own steps) ≡ all_commanded [] answered
+  pub numbered : AreNumbered 1 (own steps)
+  pub next : number ≡ length (own steps) + 1
 
 -- these lines were answered
 pub record IsPlaying {D : Type 0} (timeout : ℕ) (answered : List Answered) (number : ℕ) (e : EngineOf D Kept) : Type 0 where
-  pub numbers : AreNumbers answered e.chronicle.receipts.items e.clock e.appended e.durable e.since
-  pub steps : AreSteps answered e.chronicle.steps.items number
-  pub answers : AreLineAnswers timeout [] answered
+  pub opened : ℕ
+  pub numbers : AreNumbers opened answered e.chronicle.receipts.items e.clock e.appended e.durable e.since
+  pub steps : AreSteps opened answered e.chronicle.steps.items number
+  pub answers : AreLineAnswers opened timeout [] answered
 
 -- each label stands for this number behind these lines
 abbrev pub AreNumbersOf : (List ℕ → ℕ) → List Answered → Type 0

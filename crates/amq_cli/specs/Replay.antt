@@ -1,5 +1,5 @@
 -- What a replay does with the lines of a script.
-use Rattle.std.specs.Prelude.{◌≡◌, ◌⊎◌, ℕ, ◌+◌, ◌-◌, ◌<◌, ◌≤◌, max, Bool, true, false, ◌==◌, if◌then◌else◌, List, [], ◌∷◌, ◌++◌, length, take, map, fold, Option, None, Some, option_map, Ok, Err, IsTrue, All}
+use Rattle.std.specs.Prelude.{◌≡◌, ◌⊎◌, ℕ, ◌+◌, ◌-◌, ◌<◌, ◌≤◌, max, Bool, true, false, not, ◌==◌, if◌then◌else◌, List, [], ◌∷◌, ◌++◌, length, take, map, filter, fold, Option, None, Some, option_map, Ok, Err, IsTrue, All}
 use Rattle.std.specs.List.{cons_option, filter_map, flat_map, list_all, list_any}
 use Rattle.amq_model.specs.declared.command.Command.{Command}
 use Rattle.amq_model.specs.declared.command.Command.TheVariants as c
@@ -13,6 +13,7 @@ use Rattle.amq_model.specs.declared.history.Step.{Step}
 use Rattle.amq_model.specs.declared.refusal.DiskCall.{DiskCall}
 use Rattle.amq_model.specs.declared.refusal.Refusal.{Refusal}
 use Rattle.amq_model.specs.declared.refusal.Refusal.TheVariants as r
+use Rattle.amq_model.specs.Answers.{history_of}
 use Rattle.amq_model.specs.Script.{script_of}
 use Rattle.amq_model.specs.Texts.{reply_line, bound_line}
 use Rattle.amq_model.specs.Names.{same}
@@ -117,35 +118,50 @@ line_of x = elim x.1 [ Some answer ↦ reply_line answer | None ↦ elim x.0 [ l
 abbrev pub reply_lines : List Answered → List ℕ
 reply_lines answered = flat_map line_of answered
 
--- A tick is answered so behind these lines: by at most the appends so far, by no fewer than any line before it, and by all but those that were appended less than the timeout ago.
-pub record IsTicked (timeout : ℕ) (before : List Answered) (now count : ℕ) : Type 0 where
-  pub within : count ≤ length (filter_map placed_at before)
+-- A tick is answered so behind these lines, where the opening made so many appends: by at most the appends so far, by no fewer than those of the opening or than any line before it, and by all but those that were appended less than the timeout ago.
+pub record IsTicked (opened timeout : ℕ) (before : List Answered) (now count : ℕ) : Type 0 where
+  pub within : count ≤ opened + length (filter_map placed_at before)
+  pub least : opened ≤ count
   pub rising : All (λ c. c ≤ count) (filter_map counted before)
   pub young : (front : List Answered) (x : Answered) (back : List Answered) → before ≡ front ++ x ∷ back → placed_at x ≡ Some count → max (clock_of before) now - clock_of front < timeout
 
 -- the answer to a tick
-abbrev pub IsTickAnswer : ℕ → List Answered → ℕ → Answer → Type 0
-IsTickAnswer timeout before now (Done (Durable count)) = IsTicked timeout before now count
-IsTickAnswer timeout before now _ = ⊥
+abbrev pub IsTickAnswer : ℕ → ℕ → List Answered → ℕ → Answer → Type 0
+IsTickAnswer opened timeout before now (Done (Durable count)) = IsTicked opened timeout before now count
+IsTickAnswer opened timeout before now _ = ⊥
 
 -- the answer of a line behind others: that of a command is its step's, a bind has none, and a tick is answered as it may be
-abbrev pub IsLineAnswer : ℕ → List Answered → Line → Option Answer → Type 0
-IsLineAnswer timeout before (l.Tick now) (Some answer) = IsTickAnswer timeout before now answer
-IsLineAnswer timeout before (l.Tick now) None = ⊥
-IsLineAnswer timeout before (l.Bind label tx) None = Unit {0}
-IsLineAnswer timeout before (l.Bind label tx) (Some answer) = ⊥
-IsLineAnswer timeout before (l.Plain command) (Some answer) = Unit {0}
-IsLineAnswer timeout before (l.Plain command) None = ⊥
-IsLineAnswer timeout before (l.Labelled label command) (Some answer) = Unit {0}
-IsLineAnswer timeout before (l.Labelled label command) None = ⊥
-IsLineAnswer timeout before l.Reclaim answer = ⊥
-IsLineAnswer timeout before l.Compact answer = ⊥
-IsLineAnswer timeout before (l.Step steps) answer = ⊥
+abbrev pub IsLineAnswer : ℕ → ℕ → List Answered → Line → Option Answer → Type 0
+IsLineAnswer opened timeout before (l.Tick now) (Some answer) = IsTickAnswer opened timeout before now answer
+IsLineAnswer opened timeout before (l.Tick now) None = ⊥
+IsLineAnswer opened timeout before (l.Bind label tx) None = Unit {0}
+IsLineAnswer opened timeout before (l.Bind label tx) (Some answer) = ⊥
+IsLineAnswer opened timeout before (l.Plain command) (Some answer) = Unit {0}
+IsLineAnswer opened timeout before (l.Plain command) None = ⊥
+IsLineAnswer opened timeout before (l.Labelled label command) (Some answer) = Unit {0}
+IsLineAnswer opened timeout before (l.Labelled label command) None = ⊥
+IsLineAnswer opened timeout before l.Reclaim answer = ⊥
+IsLineAnswer opened timeout before l.Compact answer = ⊥
+IsLineAnswer opened timeout before (l.Step steps) answer = ⊥
 
 -- each line behind those before it
-abbrev pub AreLineAnswers : ℕ → List Answered → List Answered → Type 0
-AreLineAnswers timeout before [] = Unit {0}
-AreLineAnswers timeout before (x ∷ xs) = IsLineAnswer timeout before x.0 x.1 × AreLineAnswers timeout (before ++ x ∷ []) xs
+abbrev pub AreLineAnswers : ℕ → ℕ → List Answered → List Answered → Type 0
+AreLineAnswers opened timeout before [] = Unit {0}
+AreLineAnswers opened timeout before (x ∷ xs) = IsLineAnswer opened timeout before x.0 x.1 × AreLineAnswers opened timeout (before ++ x ∷ []) xs
+
+-- ---- steps
+
+-- the steps of the opening
+abbrev pub rolled : List Step → List Step
+rolled steps = filter (λ s. s.seat == 0) steps
+
+-- the steps of producers
+abbrev pub own : List Step → List Step
+own steps = filter (λ s. not (s.seat == 0)) steps
+
+-- how many appends the opening made
+abbrev pub opened_in : List Step → ℕ
+opened_in steps = length (history_of (rolled steps))
 
 -- the steps are those of seat 1, numbered from n
 abbrev pub AreNumbered : ℕ → List Step → Type 0
@@ -156,13 +172,13 @@ AreNumbered n (s ∷ ss) = (s.seat ≡ 1) × (s.number ≡ n) × AreNumbered (n 
 abbrev pub IsReceipted : List Receipted → ℕ → Type 0
 IsReceipted receipts count = IsTrue (list_any (λ r. r.durable == count) receipts)
 
--- These lines were answered, the first ones of a script: the steps are those of their commands, in order, each once, with their answers; each count is that of a receipt; and each tick is answered as it may be.
+-- These lines were answered, the first ones of a script: the steps but those of the opening are those of their commands, in order, each once, with their answers; each count is that of a receipt; and each tick is answered as it may be.
 pub record AreAnswered (timeout : ℕ) (lines : List Line) (steps : List Step) (receipts : List Receipted) (answered : List Answered) : Type 0 where
   pub front : map (λ x. x.0) answered ≡ take (length answered) lines
-  pub commands : map (λ s. (s.command, s.answer)) steps ≡ all_commanded [] answered
-  pub numbered : AreNumbered 1 steps
+  pub commands : map (λ s. (s.command, s.answer)) (own steps) ≡ all_commanded [] answered
+  pub numbered : AreNumbered 1 (own steps)
   pub receipted : All (IsReceipted receipts) (filter_map counted answered)
-  pub answers : AreLineAnswers timeout [] answered
+  pub answers : AreLineAnswers (opened_in steps) timeout [] answered
 
 -- ---- how a replay ends
 

@@ -16,10 +16,6 @@ abbrev pub IsSaid : List Line → Option (List ℕ) → Option (List ℕ) → Ty
 IsSaid lines None new = new ≡ None
 IsSaid lines (Some old) new = (length old ≤ input_limit) × (script_lines old ≡ Some lines) × (new ≡ Some [])
 
--- the source was read whole and held a script
-abbrev pub IsScript : Option (List ℕ) → Option (List ℕ) → Type 0
-IsScript old new = (lines : List Line) × IsSaid lines old new
-
 -- why a script wasn't run: its grammar, or want of memory
 abbrev pub HasScriptCause : Status → Option (List Line) → Type 0
 HasScriptCause (s.NotBuilt u.Script) lines = lines ≡ None

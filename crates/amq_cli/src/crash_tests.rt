@@ -2,14 +2,14 @@
 ghost use Rattle.std.specs.Prelude.{◌≡◌, ◌^◌, ◌<◌};
 ghost use Rattle.amq_model.specs.Configs.{IsConfig};
 
-use crate::reload::add_records;
 use crate::{Status, offline_with};
 use amq_engine::Kept;
 use amq_header::data_name;
 use amq_io::{Disk, MemoryDisk, MemorySink, MemorySource, Pick};
+use amq_loader::load_state;
 use amq_model::{Config, Name, Placed, Record};
 use amq_scan::scan;
-use amq_state::{Loading, plain_result};
+use amq_state::plain_result;
 use std::alloc::Global;
 use std::process::Abort;
 use std::test::Fail;
@@ -79,11 +79,18 @@ struct Left {
 }
 
 /// Replays the script on a disk whose call of this number fails, none for 0: the list, four calls that
-/// make a file, a write and a sync for each flush and for the closing, and the reads at the end.
+/// make a file, a write and a sync for each flush and for the closing, and the list and the reads at the end.
 fn run_with(alloc: Global, config: Config, script: &[u8], fails: u64) -> Result<Left, Fail>
     requires { IsConfig config }
 {
     let disk = MemoryDisk::failing(alloc, Vec::new(alloc), vec![in alloc; fails]?)?;
+    run_on(alloc, config, script, disk)
+}
+
+/// Replays the script on this disk.
+fn run_on(alloc: Global, config: Config, script: &[u8], disk: MemoryDisk) -> Result<Left, Fail>
+    requires { IsConfig config }
+{
     let script = Vec::from_slice(alloc, script)?;
     let mut source = MemorySource::new(script, 4096, Vec::new(alloc));
     let mut sink = MemorySink::new(alloc, 4096, Vec::new(alloc));
@@ -119,9 +126,8 @@ fn push_records(alloc: Global, id: u64, bytes: &[u8], records: &mut Vec<Placed>)
 }
 
 /// The records of the files that are there. The plain program gives the same result of them as the load.
-fn records(rt: &impl Abort, alloc: Global, disk: &MemoryDisk) -> Result<Vec<Placed>, Fail> {
+fn records(rt: &impl Abort, alloc: Global, mut disk: MemoryDisk) -> Result<Vec<Placed>, Fail> {
     let mut records = Vec::new(alloc);
-    let mut loading = Loading::new(alloc);
     for id in 1..=MOST_FILES {
         let name = data_name(alloc, id)?;
         let bytes = match disk.look(name.as_str())? {
@@ -129,9 +135,11 @@ fn records(rt: &impl Abort, alloc: Global, disk: &MemoryDisk) -> Result<Vec<Plac
             None => Vec::new(alloc),
         };
         push_records(alloc, id, &bytes, &mut records)?;
-        add_records(alloc, id, &bytes, &mut loading)?;
     }
-    assert_eq!(rt; loading.finish()?, plain_result(alloc, &records)?);
+    assert_eq!(rt;
+        load_state(alloc, &mut disk, 0)?,
+        plain_result(alloc, &records)?
+    );
     Ok(records)
 }
 
@@ -218,7 +226,7 @@ fn check(rt: &impl Abort, alloc: Global, records: &[Placed], kept: &Kept) -> Res
 #[test]
 fn a_crash_at_every_moment(rt: HostRuntime) -> Result<(), Fail> {
     let alloc = rt.alloc();
-    let counts: [(u64, usize, usize, usize); 17] = [
+    let counts: [(u64, usize, usize, usize); 19] = [
         (1, 0, 0, 0),
         (2, 0, 0, 0),
         (3, 0, 0, 0),
@@ -235,6 +243,8 @@ fn a_crash_at_every_moment(rt: HostRuntime) -> Result<(), Fail> {
         (14, 4, 4, 4),
         (15, 6, 4, 4),
         (16, 6, 6, 6),
+        (17, 6, 6, 6),
+        (18, 6, 6, 6),
         (0, 6, 6, 6),
     ];
     for (call, written, synced, zeroed) in counts {
@@ -245,7 +255,7 @@ fn a_crash_at_every_moment(rt: HostRuntime) -> Result<(), Fail> {
             (Pick::Fill(0), zeroed),
         ];
         for (pick, count) in picks {
-            let records = records(&rt, alloc, &left.disk.crash(pick)?)?;
+            let records = records(&rt, alloc, left.disk.crash(pick)?)?;
             assert_eq!(rt; records.len(), count);
             check(&rt, alloc, &records, &left.kept)?;
         }
@@ -269,7 +279,7 @@ fn the_second_flush_fails(rt: HostRuntime) -> Result<(), Fail> {
         (Pick::Revert, [1].as_slice()),
         (Pick::Fill(0), [1].as_slice()),
     ] {
-        let records = records(&rt, alloc, &left.disk.crash(pick)?)?;
+        let records = records(&rt, alloc, left.disk.crash(pick)?)?;
         check(&rt, alloc, &records, &left.kept)?;
         let mut live = Vec::new(alloc);
         for entry in plain_result(alloc, &records)?.live.as_slice() {
@@ -290,7 +300,7 @@ fn a_record_lost_in_the_middle(rt: HostRuntime) -> Result<(), Fail> {
     middle.fill(0);
     let name = Name::of(alloc, DATA_FILE)?.ok_or("no name")?;
     let disk = MemoryDisk::of_files(alloc, vec![in alloc; (name, file)]?)?;
-    let records = records(&rt, alloc, &disk)?;
+    let records = records(&rt, alloc, disk)?;
     let mut places = Vec::new(alloc);
     for placed in records.iter() {
         places.push(placed.place)?;
@@ -303,10 +313,10 @@ fn a_record_lost_in_the_middle(rt: HostRuntime) -> Result<(), Fail> {
 #[test]
 fn a_crash_at_every_moment_of_transactions(rt: HostRuntime) -> Result<(), Fail> {
     let alloc = rt.alloc();
-    for call in 0..=16 {
+    for call in 0..=18 {
         let left = run(alloc, TRANSACTIONS, call)?;
         for pick in [Pick::Keep, Pick::Revert, Pick::Fill(0)] {
-            let records = records(&rt, alloc, &left.disk.crash(pick)?)?;
+            let records = records(&rt, alloc, left.disk.crash(pick)?)?;
             check(&rt, alloc, &records, &left.kept)?;
         }
     }
@@ -314,7 +324,7 @@ fn a_crash_at_every_moment_of_transactions(rt: HostRuntime) -> Result<(), Fail> 
 }
 
 /// For each call that fails, and for none, what a crash then leaves of a run of `MOVES` is a kept part of
-/// the history. The run has this many calls, of which the reads of four files are the last.
+/// the history. The run has this many calls, of which the list and the reads of all files are the last.
 fn check_moves(rt: &impl Abort, alloc: Global, config: Config, calls: u64) -> Result<(), Fail>
     requires { IsConfig config }
 {
@@ -330,7 +340,7 @@ fn check_moves(rt: &impl Abort, alloc: Global, config: Config, calls: u64) -> Re
     for call in 0..=calls {
         let left = run_with(alloc, config, MOVES, call)?;
         for pick in [Pick::Keep, Pick::Revert, Pick::Fill(0)] {
-            let records = records(rt, alloc, &left.disk.crash(pick)?)?;
+            let records = records(rt, alloc, left.disk.crash(pick)?)?;
             check(rt, alloc, &records, &left.kept)?;
         }
     }
@@ -338,22 +348,22 @@ fn check_moves(rt: &impl Abort, alloc: Global, config: Config, calls: u64) -> Re
 }
 
 /// Nine calls of the opening, two for each of eight flushes, four for each of the two files that are
-/// prepared on the way, and four reads.
+/// prepared on the way, and a list with four reads.
 #[test]
 fn a_crash_at_every_moment_of_two_files(rt: HostRuntime) -> Result<(), Fail> {
-    check_moves(&rt, rt.alloc(), TWO_FILES, 37)
+    check_moves(&rt, rt.alloc(), TWO_FILES, 38)
 }
 
 /// The third file is prepared at the opening, and the fourth one on the way.
 #[test]
 fn a_crash_at_every_moment_of_three_files(rt: HostRuntime) -> Result<(), Fail> {
-    check_moves(&rt, rt.alloc(), THREE_FILES, 37)
+    check_moves(&rt, rt.alloc(), THREE_FILES, 38)
 }
 
-/// All files are prepared at the opening, and one more.
+/// All files are prepared at the opening, and one more, which is read too.
 #[test]
 fn a_crash_at_every_moment_of_five_files(rt: HostRuntime) -> Result<(), Fail> {
-    check_moves(&rt, rt.alloc(), FIVE_FILES, 41)
+    check_moves(&rt, rt.alloc(), FIVE_FILES, 43)
 }
 
 /// The sync of the second flush fails, and a crash loses one record of the buffer: without its add the
@@ -380,7 +390,7 @@ fn each_record_of_a_buffer_lost_in_turn(rt: HostRuntime) -> Result<(), Fail> {
             .fill(0);
         let name = Name::of(alloc, DATA_FILE)?.ok_or("no name")?;
         let disk = MemoryDisk::of_files(alloc, vec![in alloc; (name, file)]?)?;
-        let records = records(&rt, alloc, &disk)?;
+        let records = records(&rt, alloc, disk)?;
         assert_eq!(rt; records.len(), 5);
         check(&rt, alloc, &records, &left.kept)?;
         let state = plain_result(alloc, &records)?;
@@ -388,6 +398,35 @@ fn each_record_of_a_buffer_lost_in_turn(rt: HostRuntime) -> Result<(), Fail> {
             (state.live.as_slice().len(), state.in_doubt.as_slice().len()),
             (live, in_doubt)
         );
+    }
+    Ok(())
+}
+
+/// A file that an earlier run left: an add of a transaction that has no end.
+const LEFT_OPEN: &[u8] =
+    b"\x00\x00\x00\x02\x00\x00\x00\x00\x00\x00\x00\x00\x00\x00\x00\x01\x0d\x00\x00\x00\x01\x00\x00\x00\x00\x00\x00\x00\x00\x05\x00\x00\x00\x00\x00\x00\x00\x03\x00\x00\x00\x02\x07\x68\x69\x00\x00\x00\x21";
+
+/// The opening rolls a transaction back. The record that was there stays at each moment, and behind it
+/// stands a kept part of the history: list, read, sync, four calls for the new file, the rollback's write
+/// and sync, those of the closing, and a list with two reads.
+#[test]
+fn a_crash_at_every_moment_of_an_opening(rt: HostRuntime) -> Result<(), Fail> {
+    let alloc = rt.alloc();
+    for call in 0..=14 {
+        let name = Name::of(alloc, DATA_FILE)?.ok_or("no name")?;
+        let files = vec![in alloc; (name, Vec::from_slice(alloc, LEFT_OPEN)?)]?;
+        let disk = MemoryDisk::failing(alloc, files, vec![in alloc; call]?)?;
+        let left = run_on(alloc, SMALL, b"add 1 7 -\n", disk)?;
+        if call == 0 {
+            assert_eq!(rt; left.status, Status::Ok);
+            assert_eq!(rt; left.disk.moment(), 14);
+        }
+        for pick in [Pick::Keep, Pick::Revert, Pick::Fill(0)] {
+            let records = records(&rt, alloc, left.disk.crash(pick)?)?;
+            let (first, later) = records.split_first().ok_or("no record")?;
+            assert_eq!(rt; (first.file, first.place), (1, 16));
+            check(&rt, alloc, later, &left.kept)?;
+        }
     }
     Ok(())
 }

@@ -1,15 +1,15 @@
 //! The commands of the program: what its words, its source and its disk make of its sink and its status.
 //!
 //! `offline` in `program` is the one call that `amq_main` makes; `offline_with` takes a configuration. `words` and `script` read what is asked, `run`
-//! and `replay` give it to a journal, `labels` has what a script's labels stand for, `reload` loads what the journal left, `input` and `output` are
+//! and `replay` give it to a journal, `labels` has what a script's labels stand for, `print` reports what a directory has, `input` and `output` are
 //! the streams' two ends, and `status` has how a run ends.
 #![tactic(auto)]
 
 mod input;
 mod labels;
 mod output;
+mod print;
 mod program;
-mod reload;
 mod replay;
 mod run;
 mod script;
@@ -21,5 +21,7 @@ pub use status::{Status, Unbuilt};
 
 #[cfg(test)]
 mod crash_tests;
+#[cfg(test)]
+mod directory_tests;
 #[cfg(test)]
 mod tests;

@@ -1,8 +1,10 @@
-//! Writing bytes to a sink.
-ghost use Rattle.std.specs.Prelude.{◌≡◌, ◌≤◌, ◌++◌, length, IfErr, OnOk, OnErr, option_map};
+//! Writing text to a sink.
+ghost use Rattle.std.specs.Prelude.{◌≡◌, ◌⊎◌, ◌≤◌, ◌++◌, length, true, IfErr, OnOk, OnErr, option_map};
 ghost use Rattle.amq_io.specs.Cause.{Rose};
+ghost use Rattle.amq_cli.specs.Offline.{IsEnd, IsWritten, is_short};
 ghost use Rattle.amq_cli.specs.Output.{HasOutputCause, IsPartWritten};
 
+use crate::status::Status;
 use amq_io::{Sink, SinkError};
 
 /// Writes all the bytes, in as many pieces as the sink takes.
@@ -18,4 +20,21 @@ pub fn write_whole<K: Sink>(sink: &mut K, bytes: &[u8]) -> Result<(), SinkError>
         written += sink.write(rest)?;
     }
     Ok(())
+}
+
+/// Writes the text, and says how the run ended.
+pub fn write<K: Sink>(sink: &mut K, text: &[u8], outcome: Status) -> Status
+    ensures status { IsEnd result outcome (K.faults sink.old) (K.faults sink.new) }
+    ensures part { IsPartWritten text.now (K.taken sink.old) (K.taken sink.new) }
+    ensures whole { IsWritten text.now (K.taken sink.old) (K.taken sink.new) ⊎ Rose (K.faults sink.old) (K.faults sink.new) ⊎ (is_short result ≡ true) }
+    ensures ok { result ≡ Status.Ok → IsWritten text.now (K.taken sink.old) (K.taken sink.new) }
+{
+    match write_whole(sink, text) {
+        Ok(()) => outcome,
+        Err(SinkError::NoMemory) => Status::NoMemory,
+        Err(SinkError::Failed) => match outcome {
+            Status::Ok => Status::SinkFault,
+            _ => outcome,
+        },
+    }
 }

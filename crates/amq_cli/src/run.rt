@@ -3,19 +3,19 @@ ghost use Rattle.std.specs.Prelude.{◌≡◌, ◌≢◌, ◌⊎◌, ◌^◌, �
 ghost use Rattle.amq_model.specs.Answers.{history_of};
 ghost use Rattle.amq_model.specs.Configs.{IsConfig};
 ghost use Rattle.amq_model.specs.Legal.{AreLegal};
+ghost use Rattle.amq_engine.specs.Opening.{HasBase};
 ghost use Rattle.amq_model.specs.Leaves.{Leaves, Unchanged, LeavesNothingNew, Told};
 ghost use Rattle.amq_engine.specs.Receipts.{IsCrashSafe, IsLastCount};
-ghost use Rattle.amq_cli.specs.Offline.{lists_of, HasBase, HasRun, HasRunCause, HasText, IsLoadedState, IsReported, HasRunOn, HasDiskCause, is_unwritten};
-ghost use Rattle.amq_cli.specs.Loaded.{HasFilesTo, content_of};
+ghost use Rattle.amq_cli.specs.Offline.{lists_of, HasLegal, HasRun, HasRunCause, HasText, IsLoadedState, IsReported, HasRunOn, HasDiskCause, is_unwritten};
 ghost use Rattle.amq_cli.specs.Playing.{HasPlayed};
 ghost use Rattle.amq_cli.specs.Replay.{is_built};
 ghost use Rattle.amq_cli.specs.Statuses.{status_of, status_of_opening};
 
-use crate::reload::reload;
 use crate::replay::replay;
 use crate::status::{Status, Unbuilt};
 use amq_engine::{Engine, Kept, OpenFailed};
-use amq_io::{Disk, DiskFault};
+use amq_io::Disk;
+use amq_loader::{LoadFault, load_state};
 use amq_model::{Config, Line, OpenFault, Refusal};
 use amq_print::report;
 use std::alloc::Global;
@@ -35,18 +35,18 @@ pub fn run<D: Disk>(
     ensures run { result.0 ≡ Status.Ok → HasRun config lines.items text.new.items (D.past disk) (D.past result.1) result.2.base result.2.steps.items result.2.receipts.items }
     ensures text { HasText config.buffer_timeout result.0 (IsLoadedState (D.past result.1) config.user_version result.2.base result.2.steps.items) lines.items (D.faults disk) (D.faults result.1) result.2.steps.items result.2.receipts.items text.new.items }
     ensures unbuilt { is_unwritten result.0 ≡ true → text.new.items ≡ [] }
-    ensures cause { HasRunCause result.0 (D.past disk) (D.past result.1) (D.faults disk) (D.faults result.1) }
-    ensures base { result.2.base ≡ [] }
-    ensures legal { AreLegal result.2.base result.2.steps.items config }
+    ensures silent { result.2.receipts.items ≡ [] → text.new.items ≡ [] }
+    ensures cause { HasRunCause config (lists_of result.2) result.0 (D.past disk) (D.past result.1) (D.faults disk) (D.faults result.1) }
+    ensures legal { HasLegal result.0 config result.2.base result.2.steps.items (text.new.items ≡ []) }
     ensures later { (D.faults disk).0 ≤ (D.faults result.1).0 }
     ensures crash_safe { IsCrashSafe (D.past result.1) (D.moment result.1) config.user_version (lists_of result.2) }
     ensures durable { result.0 ≡ Status.Ok → IsLastCount (length (history_of result.2.steps.items)) result.2.receipts.items }
-    ensures opened { (result.2.receipts.items ≡ []) ⊎ Told (D.past disk) (HasBase result.2.base) }
+    ensures opened { (result.2.receipts.items ≡ []) ⊎ Told (D.past disk) (HasBase config.user_version result.2.base) }
     ensures nothing_new { result.2.receipts.items ≡ [] → LeavesNothingNew (D.past disk) (D.past result.1) }
 {
     let chronicle = Kept::new(alloc);
     match Engine::open_on(alloc, disk, chronicle, config) {
-        Ok((engine, _state)) => run_on(alloc, engine, lines, text),
+        Ok((engine, _state)) => run_on(alloc, config.user_version, engine, lines, text),
         Err(
             OpenFailed {
                 disk,
@@ -60,19 +60,20 @@ pub fn run<D: Disk>(
 /// Gives the lines to an open journal, closes it and loads it again.
 fn run_on<D: Disk>(
     alloc: Global,
+    user_version: u32,
     mut engine: Engine<D, Kept>,
     lines: Vec<Line>,
     text: &mut Vec<u8>,
 ) -> (Status, D, Kept)
     requires built { All (λ line. IsTrue (is_built line)) lines.items }
     requires open { engine.closed ≡ None }
+    requires version { user_version ≡ engine.config.user_version }
     requires config { IsConfig engine.config }
-    requires base { engine.chronicle.base ≡ [] }
     requires begun { HasPlayed engine.config.buffer_timeout [] (λ label. 0) 1 engine text.old.items }
     ensures run { result.0 ≡ Status.Ok → HasRunOn engine.config lines.items text.new.items (D.past result.1) result.2.base result.2.steps.items result.2.receipts.items }
     ensures text { HasText engine.config.buffer_timeout result.0 (IsLoadedState (D.past result.1) engine.config.user_version result.2.base result.2.steps.items) lines.items (D.faults engine.disk) (D.faults result.1) result.2.steps.items result.2.receipts.items text.new.items }
     ensures cause { HasDiskCause result.0 (D.faults engine.disk) (D.faults result.1) }
-    ensures base { result.2.base ≡ [] }
+    ensures base { result.2.base ≡ engine.chronicle.base }
     ensures legal { AreLegal result.2.base result.2.steps.items engine.config }
     ensures later { (D.faults engine.disk).0 ≤ (D.faults result.1).0 }
     ensures crash_safe { IsCrashSafe (D.past result.1) (D.moment result.1) engine.config.user_version (lists_of result.2) }
@@ -80,11 +81,10 @@ fn run_on<D: Disk>(
     ensures receipted { result.2.receipts.items ≢ [] }
 {
     let played = replay(alloc, &mut engine, lines, text);
-    let last = engine.file();
     let (mut disk, chronicle, closed) = engine.close();
     let status = match played {
         Ok(()) => match closed {
-            Ok(_) => add_report(alloc, &mut disk, last, text),
+            Ok(_) => add_report(alloc, &mut disk, user_version, text),
             Err(refusal) => status_of_refusal(refusal),
         },
         Err(refusal) => status_of_refusal(refusal),
@@ -93,20 +93,21 @@ fn run_on<D: Disk>(
 }
 
 /// Loads the journal that was closed, and adds the report to the text.
-fn add_report<D: Disk>(alloc: Global, disk: &mut D, last: u64, text: &mut Vec<u8>) -> Status
-    requires number { last < 2 ^ 31 }
-    requires there { Told (D.past disk.old) (HasFilesTo last) }
-    ensures reported { result ≡ Status.Ok → IsReported last text.old.items text.new.items (D.past disk.old) (D.past disk.new) }
+///
+/// It has neither a fault nor a control file, which only a disk that tells no content can answer here:
+/// where the directory isn't as it was closed, the run ends as for want of memory.
+fn add_report<D: Disk>(alloc: Global, disk: &mut D, user_version: u32, text: &mut Vec<u8>) -> Status
+    ensures reported { result ≡ Status.Ok → IsReported user_version text.old.items text.new.items (D.past disk.old) (D.past disk.new) }
     ensures unreported { (result ≡ Status.Ok) ⊎ (text.new.items ≡ text.old.items) }
     ensures cause { HasDiskCause result (D.faults disk.old) (D.faults disk.new) }
     ensures later { (D.faults disk.old).0 ≤ (D.faults disk.new).0 }
     ensures only_asks { Leaves Unchanged Unchanged (D.past disk.old) (D.past disk.new) }
     ensures moment { D.moment disk.old ≤ D.moment disk.new }
 {
-    let state = match reload(alloc, disk, last) {
+    let state = match load_state(alloc, disk, user_version) {
         Ok(state) => state,
-        Err(DiskFault::Disk(_)) => return Status::DiskFault,
-        Err(DiskFault::NoMemory) => return Status::NoMemory,
+        Err(LoadFault::Disk { .. }) => return Status::DiskFault,
+        Err(_) => return Status::NoMemory,
     };
     match report(alloc, &state) {
         Ok(lines) if text.extend_from_slice(&lines).is_ok() => Status::Ok,
@@ -129,9 +130,11 @@ fn status_of_opening(fault: OpenFault) -> Status
     ensures { result ≡ status_of_opening fault }
 {
     match fault {
+        OpenFault::Directory(fault) => Status::Directory { fault },
+        OpenFault::FileIdsSpent { highest } => Status::FileIdsSpent { highest },
         OpenFault::Disk { .. } => Status::DiskFault,
         OpenFault::NoMemory => Status::NoMemory,
-        _ => Status::NotBuilt {
+        OpenFault::NotBuilt => Status::NotBuilt {
             part: Unbuilt::Directory,
         },
     }

@@ -3,8 +3,8 @@ ghost use Rattle.amq_model.specs.Configs.{IsConfig};
 
 use crate::{Status, Unbuilt, offline, offline_with};
 use amq_engine::Kept;
-use amq_io::{Disk, MemoryDisk, MemorySink, MemorySource};
-use amq_model::{Config, Name};
+use amq_io::{Disk, MemoryDisk, MemorySink, MemorySource, Pick, faults};
+use amq_model::{Command, Config, DirFault, Name};
 use std::alloc::Global;
 use std::test::Fail;
 
@@ -13,6 +13,23 @@ const DATA_FILE: &str = "activemq-data-1.amq";
 const SECOND_FILE: &str = "activemq-data-2.amq";
 
 const WORDS: &[&str] = &["folder", "replay"];
+
+const PRINT: &[&str] = &["folder", "print"];
+
+const SETTLE: &[&str] = &["folder", "settle", "commit", "1"];
+
+const EMPTY_REPORT: &[u8] = b"live 0\nin doubt 0\n";
+
+/// The head of a file of id 1: the version, the user version and the id.
+const HEAD: &[u8] = b"\x00\x00\x00\x02\x00\x00\x00\x00\x00\x00\x00\x00\x00\x00\x00\x01";
+
+/// What a broker writes in the file of id 1 for an add of the record 1 with the type 7 and two bytes.
+const ADD: &[u8] =
+    b"\x0b\x00\x00\x00\x01\x00\x00\x00\x00\x00\x00\x00\x00\x01\x00\x00\x00\x02\x07\x68\x69\x00\x00\x00\x19";
+
+/// An add of the transaction 5 to the record 3, in the file of id 1.
+const ADD_TX: &[u8] =
+    b"\x0d\x00\x00\x00\x01\x00\x00\x00\x00\x00\x00\x00\x00\x05\x00\x00\x00\x00\x00\x00\x00\x03\x00\x00\x00\x02\x07\x68\x69\x00\x00\x00\x21";
 
 /// A file has room for several records, the buffer for one or two.
 const SMALL: Config = Config {
@@ -375,12 +392,19 @@ fn what_is_not_built_is_left_alone(rt: HostRuntime) -> Result<(), Fail> {
         assert_eq!(rt; left.disk.moment(), 0);
         assert!(rt; left.text.is_empty());
     }
-    let all_words: [&[&str]; 5] = [
+    let all_words: [&[&str]; 12] = [
         &[],
         &["folder"],
-        &["folder", "print"],
+        &["folder", "records"],
         &["-folder", "replay"],
         &["folder", "replay", "replay"],
+        &["folder", "settle", "commit"],
+        &["folder", "settle", "end", "1"],
+        &["folder", "settle", "commit", ""],
+        &["folder", "settle", "commit", "1x"],
+        &["folder", "settle", "rollback", "9223372036854775808"],
+        &["folder", "settle", "commit", "00000000000000000001"],
+        &["-folder", "settle", "commit", "1"],
     ];
     for words in all_words {
         let left = run(alloc, words, SCRIPT, MemoryDisk::new(alloc)?, &WHOLE)?;
@@ -392,17 +416,324 @@ fn what_is_not_built_is_left_alone(rt: HostRuntime) -> Result<(), Fail> {
     Ok(())
 }
 
+/// Neither a replay nor a settling opens a directory with the control file's name; it is only listed.
 #[test]
-fn a_directory_with_a_file_is_left_alone(rt: HostRuntime) -> Result<(), Fail> {
+fn a_directory_with_a_control_file_is_left_alone(rt: HostRuntime) -> Result<(), Fail> {
     let alloc = rt.alloc();
-    let name = Name::of(alloc, "other")?.ok_or("no name")?;
-    let files = vec![in alloc; (name, vec![in alloc; 1]?)]?;
-    let disk = MemoryDisk::of_files(alloc, files)?;
-    let left = run(alloc, WORDS, SCRIPT, disk, &WHOLE)?;
+    for words in [WORDS, SETTLE] {
+        let disk = disk_with(alloc, "journal-rename-control.ctr", Vec::new(alloc))?;
+        let left = run(alloc, words, SCRIPT, disk, &WHOLE)?;
+        let part = Unbuilt::Directory;
+        assert_eq!(rt; left.status, Status::NotBuilt { part });
+        assert_eq!(rt; left.disk.moment(), 1);
+        assert!(rt; left.text.is_empty());
+    }
+    Ok(())
+}
+
+/// A file of these pieces, filled up to 256 bytes as a broker does.
+fn file_of(alloc: Global, pieces: &[&[u8]]) -> Result<Vec<u8>, Fail> {
+    let mut bytes = Vec::new(alloc);
+    for piece in pieces {
+        bytes.extend_from_slice(piece)?;
+    }
+    bytes.resize(256, b'J')?;
+    Ok(bytes)
+}
+
+/// A disk with one file.
+fn disk_with(alloc: Global, name: &str, bytes: Vec<u8>) -> Result<MemoryDisk, Fail> {
+    let name = Name::of(alloc, name)?.ok_or("no name")?;
+    Ok(MemoryDisk::of_files(alloc, vec![in alloc; (name, bytes)]?)?)
+}
+
+/// Prints what the disk has.
+fn print(alloc: Global, disk: MemoryDisk, streams: &Streams) -> Result<Left, Fail>
+    requires { 1 ≤ streams.now.piece }
+{
+    run(alloc, PRINT, SCRIPT, disk, streams)
+}
+
+/// The source isn't read, nothing is opened, and the file that the print found is as it was.
+#[test]
+fn prints_what_is_there(rt: HostRuntime) -> Result<(), Fail> {
+    let alloc = rt.alloc();
+    let left = print(alloc, MemoryDisk::new(alloc)?, &WHOLE)?;
+    assert_eq!(rt; left.status, Status::Ok);
+    assert_eq!(rt; left.text.as_slice(), EMPTY_REPORT);
+    assert_eq!(rt; left.disk.moment(), 1);
+    let bytes = file_of(alloc, &[HEAD, ADD])?;
+    let disk = disk_with(alloc, DATA_FILE, file_of(alloc, &[HEAD, ADD])?)?;
+    let streams = Streams {
+        piece: 4096,
+        source: 1,
+        sink: 0,
+    };
+    let left = print(alloc, disk, &streams)?;
+    assert_eq!(rt; left.status, Status::Ok);
+    assert_eq!(rt;
+        left.text.as_slice(),
+        b"live 1\nadd 1 7 6869\nin doubt 0\n".as_slice()
+    );
+    assert_eq!(rt; left.disk.look(DATA_FILE)?, Some(bytes));
+    assert!(rt; left.kept.steps.as_slice().is_empty());
+    assert!(rt; left.kept.receipts.as_slice().is_empty());
+    Ok(())
+}
+
+/// Another version, and another user version.
+#[test]
+fn a_directory_with_a_fault(rt: HostRuntime) -> Result<(), Fail> {
+    let alloc = rt.alloc();
+    let heads: [&[u8]; 2] = [
+        b"\x00\x00\x00\x03\x00\x00\x00\x00\x00\x00\x00\x00\x00\x00\x00\x01",
+        b"\x00\x00\x00\x02\x00\x00\x00\x05\x00\x00\x00\x00\x00\x00\x00\x01",
+    ];
+    for (i, head) in heads.into_iter().enumerate() {
+        let name = Name::of(alloc, DATA_FILE)?.ok_or("no name")?;
+        let fault = if i == 0 {
+            DirFault::Version { name, found: 3 }
+        } else {
+            DirFault::UserVersion {
+                name,
+                found: 5,
+                wanted: 0,
+            }
+        };
+        let bytes = file_of(alloc, &[head, ADD])?;
+        let disk = disk_with(alloc, DATA_FILE, file_of(alloc, &[head, ADD])?)?;
+        let left = print(alloc, disk, &WHOLE)?;
+        assert_eq!(rt; left.status.code(), 7);
+        assert_eq!(rt; left.status, Status::Directory { fault });
+        assert!(rt; left.text.is_empty());
+        assert_eq!(rt; left.disk.look(DATA_FILE)?, Some(bytes));
+    }
+    Ok(())
+}
+
+/// A print ends with a disk that fails, with a sink that fails, and at a file with the control file's name.
+#[test]
+fn a_print_that_ends_early(rt: HostRuntime) -> Result<(), Fail> {
+    let alloc = rt.alloc();
+    let left = print(alloc, failing(alloc, 1)?, &WHOLE)?;
+    assert_eq!(rt; left.status, Status::DiskFault);
+    assert!(rt; left.text.is_empty());
+    let streams = Streams {
+        piece: 4,
+        source: 0,
+        sink: 2,
+    };
+    let left = print(alloc, MemoryDisk::new(alloc)?, &streams)?;
+    assert_eq!(rt; left.status, Status::SinkFault);
+    assert_eq!(rt; left.text.as_slice(), b"live".as_slice());
+    let disk = disk_with(alloc, "journal-rename-control.ctr", Vec::new(alloc))?;
+    let left = print(alloc, disk, &WHOLE)?;
     let part = Unbuilt::Directory;
     assert_eq!(rt; left.status, Status::NotBuilt { part });
-    assert_eq!(rt; left.disk.moment(), 1);
     assert!(rt; left.text.is_empty());
+    Ok(())
+}
+
+/// Neither a replay nor a settling changes a directory with a fault.
+#[test]
+fn a_faulty_directory_is_not_opened(rt: HostRuntime) -> Result<(), Fail> {
+    let alloc = rt.alloc();
+    for words in [WORDS, SETTLE] {
+        let head = b"\x00\x00\x00\x03\x00\x00\x00\x00\x00\x00\x00\x00\x00\x00\x00\x01";
+        let bytes = file_of(alloc, &[head])?;
+        let disk = disk_with(alloc, DATA_FILE, file_of(alloc, &[head])?)?;
+        let left = run(alloc, words, b"", disk, &WHOLE)?;
+        assert_eq!(rt; left.status.code(), 7);
+        assert!(rt; left.text.is_empty());
+        assert!(rt; left.kept.receipts.as_slice().is_empty());
+        assert_eq!(rt; left.disk.look(DATA_FILE)?, Some(bytes));
+        assert_eq!(rt; left.disk.look(SECOND_FILE)?, None);
+    }
+    Ok(())
+}
+
+/// A transaction is prepared, and a later opening commits it; then there is none of that number.
+#[test]
+fn a_transaction_that_is_settled(rt: HostRuntime) -> Result<(), Fail> {
+    let alloc = rt.alloc();
+    let left = replay(
+        alloc,
+        b"begin a\naddtx a 3 7 6869\nprepare a 0102\naddtx a 4 7 -\n",
+    )?;
+    assert_eq!(rt;
+        left.text.as_slice(),
+        b"tx 1\nok 0\nok 1\nrefused TxPrepared 1\nlive 0\nin doubt 1\ntx 1 extra 0102 records 1 deletes 0\n  add 3 7 6869\n".as_slice()
+    );
+    let streams = Streams {
+        piece: 4096,
+        source: 1,
+        sink: 0,
+    };
+    let words = &["folder", "settle", "commit", "0000000000000000001"];
+    let left = run(alloc, words, SCRIPT, left.disk, &streams)?;
+    assert_eq!(rt; left.status, Status::Ok);
+    assert_eq!(rt;
+        left.text.as_slice(),
+        b"ok 0\nlive 1\nadd 3 7 6869\nin doubt 0\n".as_slice()
+    );
+    for words in [SETTLE, &["folder", "settle", "rollback", "1"]] {
+        let disk = left.disk.crash(Pick::Revert)?;
+        let left = run(alloc, words, SCRIPT, disk, &WHOLE)?;
+        assert_eq!(rt; left.status, Status::Ok);
+        assert_eq!(rt;
+            left.text.as_slice(),
+            b"refused NoTx 1\nlive 1\nadd 3 7 6869\nin doubt 0\n".as_slice()
+        );
+    }
+    Ok(())
+}
+
+/// The same, rolled back.
+#[test]
+fn a_transaction_that_is_rolled_back(rt: HostRuntime) -> Result<(), Fail> {
+    let alloc = rt.alloc();
+    let left = replay(alloc, b"begin a\naddtx a 3 7 6869\nprepare a 0102\n")?;
+    let words = &["folder", "settle", "rollback", "1"];
+    let left = run(alloc, words, SCRIPT, left.disk, &WHOLE)?;
+    assert_eq!(rt; left.status, Status::Ok);
+    assert_eq!(rt;
+        left.text.as_slice(),
+        b"ok 0\nlive 0\nin doubt 0\n".as_slice()
+    );
+    Ok(())
+}
+
+/// What an earlier opening left unfinished is removed, a file of another name stays, and the new file has
+/// a greater number than all names.
+#[test]
+fn leftovers_and_other_files(rt: HostRuntime) -> Result<(), Fail> {
+    let alloc = rt.alloc();
+    let mut disk = MemoryDisk::new(alloc)?;
+    for text in ["activemq-data-9.amq.tmp", "notes.txt"] {
+        let name = Name::of(alloc, text)?.ok_or("no name")?;
+        faults::create(&mut disk, name.as_str(), 5, 110)?;
+    }
+    let left = print(alloc, disk, &WHOLE)?;
+    assert_eq!(rt; left.status, Status::Ok);
+    assert_eq!(rt; left.text.as_slice(), EMPTY_REPORT);
+    let left = run(alloc, WORDS, b"", left.disk, &WHOLE)?;
+    assert_eq!(rt; left.status, Status::Ok);
+    assert_eq!(rt; left.text.as_slice(), EMPTY_REPORT);
+    assert_eq!(rt; left.disk.look("activemq-data-9.amq.tmp")?, None);
+    let notes = left.disk.look("notes.txt")?.ok_or("no notes")?;
+    assert_eq!(rt; notes.as_slice(), b"nnnnn".as_slice());
+    assert!(rt; left.disk.look("activemq-data-10.amq")?.is_some());
+    assert_eq!(rt; left.disk.look(DATA_FILE)?, None);
+    Ok(())
+}
+
+/// There is no number for a further file, so the directory isn't opened; a print reports it.
+#[test]
+fn the_greatest_file_id(rt: HostRuntime) -> Result<(), Fail> {
+    let alloc = rt.alloc();
+    let head = b"\x00\x00\x00\x02\x00\x00\x00\x00\x00\x00\x00\x00\x7f\xff\xff\xff";
+    let add =
+        b"\x0b\x7f\xff\xff\xff\x00\x00\x00\x00\x00\x00\x00\x00\x01\x00\x00\x00\x02\x07\x68\x69\x00\x00\x00\x19";
+    let disk = disk_with(alloc, DATA_FILE, file_of(alloc, &[head, add])?)?;
+    let left = run(alloc, WORDS, SCRIPT, disk, &WHOLE)?;
+    assert_eq!(rt; left.status.code(), 10);
+    assert_eq!(rt;
+        left.status,
+        Status::FileIdsSpent {
+            highest: 2_147_483_647
+        }
+    );
+    assert!(rt; left.text.is_empty());
+    let left = print(alloc, left.disk, &WHOLE)?;
+    assert_eq!(rt; left.status, Status::Ok);
+    assert_eq!(rt;
+        left.text.as_slice(),
+        b"live 1\nadd 1 7 6869\nin doubt 0\n".as_slice()
+    );
+    Ok(())
+}
+
+/// The greatest number of a transaction is used, so there is none for another one.
+#[test]
+fn the_greatest_transaction_number(rt: HostRuntime) -> Result<(), Fail> {
+    let alloc = rt.alloc();
+    let rollback = b"\x13\x00\x00\x00\x01\x00\x7f\xff\xff\xff\xff\xff\xff\xff\x00\x00\x00\x12";
+    let disk = disk_with(alloc, DATA_FILE, file_of(alloc, &[HEAD, rollback])?)?;
+    let left = run(alloc, WORDS, b"begin a\ncommit a\n", disk, &WHOLE)?;
+    assert_eq!(rt; left.status, Status::Ok);
+    assert_eq!(rt;
+        left.text.as_slice(),
+        b"refused TxNumbersSpent 9223372036854775807\nrefused NoTx 0\nlive 0\nin doubt 0\n".as_slice()
+    );
+    Ok(())
+}
+
+/// The opening rolls back what was left open. Its append has the place 0, and it is durable.
+#[test]
+fn a_transaction_that_was_left_open(rt: HostRuntime) -> Result<(), Fail> {
+    let alloc = rt.alloc();
+    let disk = disk_with(alloc, DATA_FILE, file_of(alloc, &[HEAD, ADD_TX])?)?;
+    let left = run(alloc, WORDS, b"tick 0\nadd 1 7 -\n", disk, &WHOLE)?;
+    assert_eq!(rt; left.status, Status::Ok);
+    assert_eq!(rt;
+        left.text.as_slice(),
+        b"durable 1\nok 1\nlive 1\nadd 1 7 -\nin doubt 0\n".as_slice()
+    );
+    let steps = left.kept.steps.as_slice();
+    let seats = [(0, 1), (1, 1)];
+    assert_eq!(rt; steps.len(), 2);
+    for (step, seat) in steps.iter().zip(seats) {
+        assert_eq!(rt; (step.seat, step.number), seat);
+    }
+    assert_eq!(rt;
+        steps.first().map(|step| &step.command),
+        Some(&Command::Rollback { tx: 5 })
+    );
+    assert_eq!(rt; left.kept.base.as_slice().len(), 1);
+    assert_eq!(rt; last_count(&left.kept), Some(2));
+    Ok(())
+}
+
+/// The journal is closed and loaded again before the sink is called.
+#[test]
+fn an_empty_script_and_a_sink_that_fails(rt: HostRuntime) -> Result<(), Fail> {
+    let alloc = rt.alloc();
+    let report = b"live 1\nadd 1 7 6869\nin doubt 0\n";
+    let left = replay(alloc, SCRIPT)?;
+    let streams = Streams {
+        piece: 4096,
+        source: 0,
+        sink: 1,
+    };
+    let left = run(alloc, WORDS, b"", left.disk, &streams)?;
+    assert_eq!(rt; left.status, Status::SinkFault);
+    assert!(rt; left.text.is_empty());
+    let left = print(alloc, left.disk, &WHOLE)?;
+    assert_eq!(rt; left.status, Status::Ok);
+    assert_eq!(rt; left.text.as_slice(), report.as_slice());
+    Ok(())
+}
+
+/// The calls of an opening are the list, a read and a sync of the file that is there, four for the new
+/// file, a write and a sync for the rollback. Where one of them fails, nothing is written.
+#[test]
+fn an_opening_that_fails(rt: HostRuntime) -> Result<(), Fail> {
+    let alloc = rt.alloc();
+    for call in 1..=9 {
+        let file = file_of(alloc, &[HEAD, ADD_TX])?;
+        let name = Name::of(alloc, DATA_FILE)?.ok_or("no name")?;
+        let disk = MemoryDisk::failing(
+            alloc,
+            vec![in alloc; (name, file)]?,
+            vec![in alloc; call]?,
+        )?;
+        let left = run(alloc, WORDS, b"tick 0\n", disk, &WHOLE)?;
+        assert_eq!(rt; left.status, Status::DiskFault);
+        assert!(rt; left.text.is_empty());
+        assert_eq!(rt; left.kept.receipts.as_slice().is_empty(), call <= 3);
+        let steps = left.kept.steps.as_slice();
+        assert_eq!(rt; steps.len() as u64, if call <= 7 { 0 } else { 1 });
+    }
     Ok(())
 }
 
@@ -459,11 +790,11 @@ fn a_sink_that_fails(rt: HostRuntime) -> Result<(), Fail> {
 }
 
 /// The calls are the list and four for each of two files at the opening, a write and a sync for the
-/// flush, the same at the closing, and the read at the end.
+/// flush, the same at the closing, and the list and two reads at the end.
 #[test]
 fn a_disk_that_fails(rt: HostRuntime) -> Result<(), Fail> {
     let alloc = rt.alloc();
-    let texts: [&[u8]; 14] = [
+    let texts: [&[u8]; 16] = [
         b"",
         b"",
         b"",
@@ -475,6 +806,8 @@ fn a_disk_that_fails(rt: HostRuntime) -> Result<(), Fail> {
         b"",
         b"ok 0\nrefused Disk WriteAt\n",
         b"ok 0\nrefused Disk Sync\n",
+        b"ok 0\ndurable 1\nok 1\n",
+        b"ok 0\ndurable 1\nok 1\n",
         b"ok 0\ndurable 1\nok 1\n",
         b"ok 0\ndurable 1\nok 1\n",
         b"ok 0\ndurable 1\nok 1\n",
@@ -501,7 +834,7 @@ fn a_disk_that_fails(rt: HostRuntime) -> Result<(), Fail> {
 #[test]
 fn a_disk_that_fails_at_a_further_file(rt: HostRuntime) -> Result<(), Fail> {
     let alloc = rt.alloc();
-    let rows: [(&[u8], u64); 13] = [
+    let rows: [(&[u8], u64); 14] = [
         (b"ok 0\nrefused Disk WriteAt\n", 0),
         (b"ok 0\nrefused Disk Sync\n", 0),
         (b"ok 0\nok 1\nrefused Disk WriteAt\n", 1),
@@ -512,6 +845,7 @@ fn a_disk_that_fails_at_a_further_file(rt: HostRuntime) -> Result<(), Fail> {
         (b"ok 0\nok 1\nrefused Disk Rename\n", 2),
         (b"ok 0\nok 1\nok 2\n", 2),
         (b"ok 0\nok 1\nok 2\n", 2),
+        (b"ok 0\nok 1\nok 2\n", 3),
         (b"ok 0\nok 1\nok 2\n", 3),
         (b"ok 0\nok 1\nok 2\n", 3),
         (b"ok 0\nok 1\nok 2\n", 3),

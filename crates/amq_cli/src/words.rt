@@ -1,15 +1,100 @@
 //! The words of a command.
-ghost use Rattle.std.specs.Prelude.{◌≡◌, ◌↔◌, IsTrue, map};
-ghost use Rattle.amq_cli.specs.Words.{is_replay, folder_named};
+ghost use Rattle.std.specs.Prelude.{◌≡◌, ◌≤◌, IsTrue, length};
+ghost use Rattle.std.specs.List.{list_all};
+ghost use Rattle.amq_model.specs.Names.{is_digit, value_of, number_spelled};
+ghost use Rattle.amq_cli.specs.Words.{asked, task_named, settling, settling_spelled, folder_named};
 
-/// Whether the words are `DIR replay`.
-pub fn says_replay(words: &[&str]) -> bool
-    ensures { result ≡ is_replay (map (λ word. word.now) words.now) }
+use amq_model::Command;
+
+/// What is asked of the program.
+#[derive(Debug, Drop, PartialEq, Eq)]
+pub enum Task {
+    /// To run the lines of a script on a journal.
+    Replay,
+    /// To write the report of what the directory has.
+    Print,
+    /// To end a transaction with this command.
+    Settle(Command),
+}
+
+/// What the words ask for; `None` where they have no meaning, or one that isn't built yet.
+pub fn task_of(words: &[&str]) -> Option<Task>
+    ensures { result ≡ asked words.now }
 {
     match words {
-        [folder, command] => is_folder(folder) && *command == "replay",
-        _ => false,
+        [folder, command] if is_folder(folder) => task_named(command),
+        [folder, command, end, digits] if is_folder(folder) && *command == "settle" => {
+            settling_spelled(end, digits)
+        }
+        _ => None,
     }
+}
+
+/// The command of one word.
+fn task_named(command: &str) -> Option<Task>
+    ensures { result ≡ task_named command.now }
+{
+    match command {
+        "replay" => Some(Task::Replay),
+        "print" => Some(Task::Print),
+        _ => None,
+    }
+}
+
+/// The end that these two words ask for: which one, and of which transaction.
+fn settling_spelled(end: &str, digits: &str) -> Option<Task>
+    ensures { result ≡ settling_spelled end.now digits.now }
+{
+    match number_spelled(digits.as_bytes()) {
+        Some(tx) => settling(end, tx),
+        None => None,
+    }
+}
+
+/// The end of this transaction by the word for it.
+fn settling(end: &str, tx: u64) -> Option<Task>
+    ensures { result ≡ settling end.now tx }
+{
+    match end {
+        "commit" => Some(Task::Settle(Command::Commit { tx })),
+        "rollback" => Some(Task::Settle(Command::Rollback { tx })),
+        _ => None,
+    }
+}
+
+/// The number that 1 to 19 digits spell, if it is at most 2^63 - 1.
+fn number_spelled(digits: &[u8]) -> Option<u64>
+    ensures { result ≡ number_spelled digits.now }
+{
+    if digits.is_empty() || digits.len() > 19 || !all_digits(digits) {
+        return None;
+    }
+    let value = value_of(digits);
+    if value > i64::MAX as u64 {
+        None
+    } else {
+        Some(value)
+    }
+}
+
+/// Whether each byte is a decimal digit.
+fn all_digits(bytes: &[u8]) -> bool
+    ensures { result ≡ list_all is_digit bytes.now }
+{
+    bytes.iter().all(|byte| byte.is_ascii_digit())
+}
+
+/// The number that at most 19 digits spell.
+fn value_of(digits: &[u8]) -> u64
+    requires digits { IsTrue (list_all is_digit digits.now) }
+    requires few { length digits.now ≤ 19 }
+    ensures { result ≡ value_of digits.now }
+{
+    let mut value = 0;
+    for digit in digits {
+        value = value * 10 + u64::from(*digit - b'0');
+    }
+    value
 }
 
 /// Whether a word names a folder: it isn't empty and doesn't begin with a dash.

@@ -1,223 +1,278 @@
--- A journal in a directory that was empty.
-use Rattle.std.proofs.Common.{◌≡◌, ◌⊎◌, inl, inr, ℕ, ◌-◌, ◌^◌, ◌<◌, ◌≤◌, List, [], ◌∷◌, ◌++◌, length, Bool, cond, Option, None, Some, refl, sym, ◌∙◌, ap, subst, arith}
-use Rattle.std.specs.Prelude.{IfSome, IsTrue, All, Result, option_map, map as map_of}
-use Rattle.std.specs.FinMap as map
-use Rattle.std.proofs.lemmas.Option.{none-some}
-use Rattle.std.specs.Ordering.{nat_cmp}
-use Rattle.std.specs.Cmp.Lexicographic.{slice_cmp}
-use Rattle.amq_model.proofs.Lookups.{same_self}
-use Rattle.amq_model.specs.Files.{FileName, Files, File}
-use Rattle.amq_model.specs.Names.{is_data, control_name}
-use Rattle.amq_model.specs.Calls.{Past, content, listing, fine, noted, counted}
-use Rattle.amq_model.specs.Leaves.{Told}
-use Rattle.amq_io.specs.Listed.{IsListed}
-use Rattle.amq_model.specs.Leaves.{AllReads, HoldsSince, IsAt}
-use Rattle.amq_model.specs.Leaves.{Leaves, Unchanged}
-use Rattle.amq_io.specs.declared.disk.FileInfo.{FileInfo}
-use Rattle.amq_model.proofs.Settling.{list_settles}
-use Rattle.amq_model.proofs.Keeping.{reads_on, holds_now, kept_from, kept_weaker}
+-- A journal that begins on the directory that was loaded.
+use Rattle.std.proofs.Common.{◌≡◌, ◌⊎◌, inl, inr, ℕ, ◌+◌, ◌-◌, ◌^◌, ◌<◌, ◌≤◌, false, List, [], ◌∷◌, ◌++◌, length, Option, None, Some, Result, Ok, Err, refl, sym, ◌∙◌, ap, subst, arith}
+use Rattle.std.specs.Prelude.{IfSome, OnOk, IsTrue, All, is_err, option_map, map as map_of}
+use Rattle.std.specs.List.{AllByRecursion}
+use Rattle.std.specs.FinMap as finite
+use Rattle.std.proofs.lemmas.List.{append-nil}
 use Rattle.amq_model.specs.declared.config.Config.{Config}
+use Rattle.amq_model.specs.declared.record.Placed.{Placed}
+use Rattle.amq_model.specs.Configs.{IsConfig}
+use Rattle.amq_model.specs.Names.{is_data, control_name}
+use Rattle.amq_model.specs.Files.{FileName, Files, File}
+use Rattle.amq_model.specs.Calls.{Past, content}
 use Rattle.amq_model.specs.Answers.{history_of}
-use Rattle.amq_model.specs.Legal.{AreLegal}
-use Rattle.amq_engine.specs.declared.chronicle.Receipted.{Receipted}
-use Rattle.amq_engine.specs.Lists.{Lists, with_base, with_receipt}
-use Rattle.amq_engine.specs.Directory.{IsEmpty, Stands, StandsNow, AreListed, all_files}
+use Rattle.amq_model.specs.Headline.{RecoversSince}
+use Rattle.amq_model.specs.Leaves.{Told, Leaves, Syncs, AllReads, HoldsSince, IsAt}
+use Rattle.amq_model.proofs.Chain.{told_then}
+use Rattle.amq_model.proofs.Moments.{syncs_until}
+use Rattle.amq_model.proofs.Keeping.{reads_on, reads_weaker, holds_now, kept_from}
 use Rattle.amq_buffer.specs.Buffered.{Buffered}
 use Rattle.amq_header.specs.Classes.{data_name, temporary_name}
 use Rattle.amq_header.proofs.Made.{data_is_read}
+use Rattle.amq_io.specs.Faults.{HasFault}
+use Rattle.amq_io.specs.Cause.{Faults}
+use Rattle.amq_io.specs.declared.faults.DiskFault.{DiskFault}
+use Rattle.amq_io.specs.declared.faults.DiskFault.TheVariants as f
+use Rattle.amq_scan.specs.Segments.{Segment, records_of, AreAscending, IsNamed, IsClosedDirectory, IsDirectory}
+use Rattle.amq_scan.proofs.Parts.{Has, has_contains, contains_has}
 use Rattle.amq_pool.specs.declared.pool.PoolFile.{PoolFile}
-use Rattle.amq_pool.specs.Pools.{PoolOf, IsPool, numbered_file, with_first, file_for, Making, Made}
+use Rattle.amq_pool.specs.Pools.{PoolOf, IsPool, numbered_file, file_for, Making, Made}
 use Rattle.amq_tx.specs.State.{TxState}
 use Rattle.amq_tx.specs.Follows.{Follows}
-use Rattle.amq_engine.specs.Engine.{Holds, IsValid, AreKept, IsTold, IsBlank, AreBegun, HasCome}
+use Rattle.amq_loader.specs.Bases.{AreNamed, IsBaseFile, IsBase, Clears, Cleared}
+use Rattle.amq_loader.specs.Loads.{IsTidy}
+use Rattle.amq_loader.proofs.Bases.{closed_clears, closed_is_directory}
+use Rattle.amq_engine.specs.declared.chronicle.Receipted.{Receipted}
+use Rattle.amq_engine.specs.Lists.{Lists, with_base, with_receipt}
+use Rattle.amq_engine.specs.Directory.{Stands, StandsNow, AreListed, HasName, named_file, all_files}
+use Rattle.amq_engine.specs.Engine.{rolling, Holds, IsValid, AreKept, IsTold, IsBlank, open_fault}
+use Rattle.amq_engine.specs.Opening.{HasNumbers, HasOpenCause, AreLeft}
+use Rattle.amq_engine.specs.Receipts.{AreInOrder, IsLastCount, IsCrashSafe, Anything, GoesOn, BeginsBySyncs}
+use Rattle.amq_engine.proofs.Tidying.{tidy_made}
 use Rattle.amq_engine.proofs.Receipts.{if_some}
-use Rattle.amq_engine.proofs.Recovering.{told_safe, last_more}
-use Rattle.amq_engine.proofs.Holding.{empty_holds, stands_holds}
+use Rattle.amq_engine.proofs.Recovering.{told_safe}
+use Rattle.amq_engine.proofs.Holding.{stands_holds}
 use Rattle.amq_engine.proofs.Segments.{number_names}
-use Rattle.amq_engine.proofs.Standing.{same_or_not, control_apart, temporary_apart, prepared_in_use}
-use Rattle.amq_engine.specs.Receipts.{AreInOrder, IsLastCount, IsCrashSafe}
-use Rattle.amq_model.specs.Configs.{IsConfig}
-use Rattle.amq_model.specs.Headline.{RecoversSince}
-use Rattle.amq_io.proofs.Called.{listing_only_asks}
-use Rattle.amq_io.specs.Notes.{Notes}
-use Rattle.amq_io.specs.declared.disk.DiskError.{DiskError}
+use Rattle.amq_engine.proofs.Listing.{listed_next, next_apart, has_back, has_closed}
+use Rattle.amq_engine.proofs.Standing.{Matters, kept_but, closed_kept, closed_data, same_or_not, control_apart, temporary_apart, prepared_in_use}
 
-no_entry : (es : List (FileName × File)) → map_of {B = FileName × ℕ} (λ e. (e.0, length e.1.bytes)) es ≡ [] → es ≡ []
-no_entry [] e = refl
-no_entry (x ∷ es) e = absurd cc
+-- ---- the files of a base, as a journal lists them
 
-none_of : (s : Files) → map_of {B = FileName × ℕ} (λ e. (e.0, length e.1.bytes)) (map.entries s) ≡ [] → IsEmpty s
-none_of s none q = map.get-entries s q ∙ ap (map.find (slice_cmp nat_cmp) q) (no_entry (map.entries s) none)
+mapped_named : (n : FileName) (gs : List Segment) → HasName n (map_of named_file gs) → IsNamed n gs
+mapped_named n [] h = h
+mapped_named n (g ∷ gs) (inl e) = inl e
+mapped_named n (g ∷ gs) (inr h) = inr (mapped_named n gs h)
 
-none_by : (o p : Option File) → option_map (λ f. length f.bytes) o ≡ option_map (λ f. length f.bytes) p → p ≡ None → o ≡ None
-none_by None p same none = refl
-none_by (Some f) None same none = absurd cc
-none_by (Some f) (Some g) same none = absurd cc
+named_mapped : (n : FileName) (gs : List Segment) → IsNamed n gs → HasName n (map_of named_file gs)
+named_mapped n [] h = h
+named_mapped n (g ∷ gs) (inl e) = inl e
+named_mapped n (g ∷ gs) (inr h) = inr (named_mapped n gs h)
 
-no_info : (infos : List FileInfo) → map_of {B = FileName × ℕ} (λ i. (i.name, i.len)) infos ≡ [] → infos ≡ []
-no_info [] e = refl
-no_info (x ∷ xs) e = absurd cc
+files_listed : (highest least : ℕ) (gs : List Segment) → AreAscending least gs → AreNamed highest gs → AllByRecursion (IsBaseFile highest) gs → AreListed highest least (map_of named_file gs)
+files_listed highest least [] ascending named each = tt
+files_listed highest least (g ∷ gs) ascending named each = (ascending.0, each.0.id, named.0, λ h. named.1 (mapped_named g.name gs h), files_listed highest (g.id + 1) gs ascending.1 named.2 each.1)
 
-found_first : (n : FileName) (f : File) (es : List (FileName × File)) → map.find (slice_cmp nat_cmp) n ((n, f) ∷ es) ≡ Some f
-found_first n f es = ap (λ (b : Bool). cond b (Some f) (map.find (slice_cmp nat_cmp) n es)) (same_self n)
+-- ---- the directory
 
-no_entries : (s : Files) → IsEmpty s → map.entries s ≡ []
-no_entries s empty = by (map.entries s) refl where
-  by : (es : List (FileName × File)) → map.entries s ≡ es → es ≡ []
-  by [] is = refl
-  by (e ∷ es) is = absurd (let there : None ≡ Some e.1 = sym (empty e.0) ∙ map.get-entries s e.0 ∙ ap (map.find (slice_cmp nat_cmp) e.0) is ∙ found_first e.0 e.1 es in cc)
+-- all that matters is as it was
+closed_same : (wanted : ℕ) (gs : List Segment) (o s : Files) → ((q : FileName) → Matters q → finite.get s q ≡ finite.get o q) → IsClosedDirectory wanted gs o → IsClosedDirectory wanted gs s
+closed_same wanted gs o s kept was = record {
+  ascending = was.ascending;
+  there = closed_kept wanted o s gs (λ q h. kept q (inl (closed_data wanted o gs q was.there h))) was.there;
+  only = λ n file named long there. was.only n file named long (sym (kept n (inl named)) ∙ there);
+  uncontrolled = kept control_name (inr refl) ∙ was.uncontrolled;
+}
 
--- a list that answered with nothing
-pub empty_reads : (infos : List FileInfo) (a b : Option Past) → infos ≡ [] → Told a (IsListed infos) → b ≡ option_map (noted listing fine) a → AllReads b IsEmpty
-empty_reads infos None b none told notes = let F : Option Past → Type 0 = λ h. AllReads h IsEmpty in subst F (sym notes) tt
-empty_reads infos (Some p) b none told notes =
-    let F : Option Past → Type 0 = λ h. AllReads h IsEmpty in
-    let settled = list_settles (Some p) (Some (noted listing fine p)) refl in
-    let G : List FileInfo → Type 0 = λ l. IsListed l (content p.start p.calls) in
-    subst F (sym notes) (λ s reads q. none_by (map.get s q) (map.get (content p.start p.calls) q) (settled s reads q) (none_of (content p.start p.calls) (sym (subst G none told)) q))
-
--- what a list told of the directory
-pub empty_told : (infos : List FileInfo) (a : Option Past) → infos ≡ [] → Told a (IsListed infos) → Told a IsEmpty
-empty_told infos None none told = tt
-empty_told infos (Some p) none told = none_of (content p.start p.calls) (let G : List FileInfo → Type 0 = λ l. IsListed l (content p.start p.calls) in sym (subst G none told))
-
-pub some_told : (infos : List FileInfo) (a : Option Past) → (infos ≡ [] → ⊥) → Told a (IsListed infos) → Told a (λ s. IsEmpty s → ⊥)
-some_told infos None some told = tt
-some_told infos (Some p) some told = λ empty. some (no_info infos (told ∙ ap (map_of {B = FileName × ℕ} (λ e. (e.0, length e.1.bytes))) (no_entries (content p.start p.calls) empty)))
-
--- ---- the first file
-
--- its number and its name
-abbrev pub first : PoolFile
-first = numbered_file 1
-
-one_listed : AreListed 1 1 (all_files [] first [])
-one_listed = (omega arith, omega arith, (1, data_is_read 1 (omega arith), omega arith), (λ none. none), tt)
-
-module _ (config : Config) (ranges : IsConfig config) (o s : Files) (empty : IsEmpty o) (others : (q : FileName) → (q ≡ temporary_name 1 → ⊥) → (q ≡ data_name 1 → ⊥) → map.get s q ≡ map.get o q) where
-  no_control : map.get s control_name ≡ None
-  no_control = others control_name (λ e. temporary_apart 1 control_name (inr refl) e) (λ e. control_apart (data_name 1) (number_names (data_name 1) 1 (data_is_read 1 (omega arith))) (sym e)) ∙ empty control_name
-
-  other_name : (n : FileName) (file : File) → IsTrue (is_data n) → (n ≡ data_name 1 → ⊥) → map.get s n ≡ Some file → ⊥
-  other_name n file named ne there = none-some file (sym (others n (λ e. temporary_apart 1 n (inl named) e) ne ∙ empty n) ∙ there)
-
-  first_stands : map.get s (data_name 1) ≡ Some (file_for config 1) → Stands config [] first 0 [] [] s
-  first_stands there = record {
-    closed_there = tt;
-    used_there = prepared_in_use config first ranges s there;
-    free_there = tt;
-    only = λ n file named is. by n file named is (same_or_not n (data_name 1));
-    uncontrolled = no_control;
-  } where
-    by : (n : FileName) (file : File) → IsTrue (is_data n) → map.get s n ≡ Some file → (n ≡ data_name 1) ⊎ (n ≡ data_name 1 → ⊥) → (data_name 1 ≡ n) ⊎ ⊥
-    by n file named is (inl e) = inl (sym e)
-    by n file named is (inr ne) = absurd (other_name n file named ne is)
-
-  first_holds : (map.get s (data_name 1) ≡ map.get o (data_name 1)) ⊎ ((map.get s (data_name 1) ≡ Some (file_for config 1)) × (map.get s (temporary_name 1) ≡ None)) → Holds config.user_version [] 0 [] s
-  first_holds (inl same) = empty_holds config.user_version [] s (λ n file named is. by n file named is (same_or_not n (data_name 1))) no_control
-    where
-      by : (n : FileName) (file : File) → IsTrue (is_data n) → map.get s n ≡ Some file → (n ≡ data_name 1) ⊎ (n ≡ data_name 1 → ⊥) → ⊥
-      by n file named is (inl e) = none-some file (sym (same ∙ empty (data_name 1)) ∙ sym (ap (map.get s) e) ∙ is)
-      by n file named is (inr ne) = other_name n file named ne is
-  first_holds (inr there) = stands_holds config [] first 0 [] 1 [] s 0 ranges (λ k x lt. absurd (omega (arith, lt))) (omega arith) (omega arith) one_listed (omega arith) (first_stands there.0)
-
--- ---- what an opening leaves
-
--- what a chronicle has that was blank, behind the base and the first receipt
-abbrev pub first_lists : ℕ → Lists → Lists
-first_lists moment l = with_receipt 0 moment (with_base [] l)
-
-begun_legal : (config : Config) → AreLegal [] [] config
-begun_legal config = record { each = tt; opening = λ k d lt. absurd (omega (arith, lt)) }
-
-module _ (config : Config) (ranges : IsConfig config) (infos : List FileInfo) (a b d : Option Past) (none : infos ≡ []) (listed : Told a (IsListed infos)) (noted : b ≡ option_map (noted listing fine) a) where
-  empty_now : AllReads b IsEmpty
-  empty_now = empty_reads infos a b none listed noted
-
-  empty_is_held : (s : Files) → IsEmpty s → Holds config.user_version [] 0 [] s
-  empty_is_held s empty = empty_holds config.user_version [] s (λ n file named is. none-some file (sym (empty n) ∙ is)) (empty control_name)
-
-  -- however the preparation ended
-  module _ (F : Files → Files → Type 0) (went : Leaves (Making config 1) F b d) where
-    kept_begun : (m : ℕ) → IfSome b (IsAt m) → m < 2 ^ 64 - 1 → HoldsSince d m (Holds config.user_version [] 0 [])
-    kept_begun m at early =
-        kept_from (Making config 1) F (Holds config.user_version [] 0 []) IsEmpty m b d
-        (kept_weaker IsEmpty (Holds config.user_version [] 0 []) m b empty_is_held (holds_now IsEmpty m b at early empty_now)) empty_now (λ o s empty making. first_holds config ranges o s empty making.others making.final) went
-
-    told_begun : (m : ℕ) → IfSome b (IsAt m) → (l : Lists) → IsBlank l → IsTold d config.user_version 0 [] [] (first_lists m l)
-    told_begun m at l blank = record {
-      base = refl;
-      same = blank.1;
-      kept = subst (λ (rs : List Receipted). AreKept d config.user_version 0 [] (rs ++ record { durable = 0; moment = m } ∷ [])) (sym blank.2) ((omega arith, kept_begun m at), tt);
+-- it holds its records, and nothing behind them
+pub closed_holds : (wanted : ℕ) (base : List Placed) (gs : List Segment) (s : Files) → records_of gs ≡ base → IsClosedDirectory wanted gs s → Holds wanted base 0 [] s
+closed_holds wanted base gs s based closed =
+    let count : length (records_of gs) ≡ length base + 0 = omega (arith, ap (λ (l : List Placed). length l) based) in
+    record {
+      files = gs;
+      sure = 0;
+      put = 0;
+      enough = omega arith;
+      ahead = omega arith;
+      within = omega arith;
+      is = subst (λ (k : ℕ). IsDirectory wanted k gs s) count (closed_is_directory wanted gs s closed);
+      records = based ∙ sym (append-nil base);
+      last = 0;
+      one = λ k d lt. absurd (omega (arith, lt));
     }
 
-    order_begun : (m later : ℕ) → m ≤ later → (l : Lists) → IsBlank l → AreInOrder later (first_lists m l).receipts
-    order_begun m later on l blank = subst (λ (rs : List Receipted). AreInOrder later (rs ++ record { durable = 0; moment = m } ∷ [])) (sym blank.2) (refl, on)
+module _ (config : Config) (ranges : IsConfig config) (highest : ℕ) (low : highest < 2 ^ 31 - 1) (base : List Placed) (gs : List Segment) (based : records_of gs ≡ base)
+    (ascending : AreAscending 0 gs) (named : AreNamed highest gs) (each : AllByRecursion (IsBaseFile highest) gs) where
+  -- the file that is begun
+  abbrev begun : PoolFile
+  begun = numbered_file (highest + 1)
 
-    -- the chronicle is crash safe from the first receipt on
-    pub begun_safe : (m later : ℕ) → IfSome b (IsAt m) → m ≤ later → (lists lists' : Option Lists) → IfSome lists IsBlank → lists' ≡ option_map (with_receipt 0 m) (option_map (with_base []) lists) → IfSome lists' (IsCrashSafe d later config.user_version)
-    begun_safe m later at on lists lists' blank is = subst (λ (l : Option Lists). IfSome l (IsCrashSafe d later config.user_version)) (sym is) (by lists blank) where
-      by : (o : Option Lists) → IfSome o IsBlank → IfSome (option_map (with_receipt 0 m) (option_map (with_base []) o)) (IsCrashSafe d later config.user_version)
-      by None blank = tt
-      by (Some l) blank = told_safe d later config 0 [] [] (first_lists m l) refl (begun_legal config) (omega arith) (told_begun m at l blank) (order_begun m later on l blank)
+  old_listed : AreListed highest 0 (map_of named_file gs)
+  old_listed = files_listed highest 0 gs ascending named each
 
-  -- the engine of a journal that began
-  module _ (went : Leaves (Making config 1) (Made config 1) b d) where
-    reads_begun : AllReads d (StandsNow config [] first 0 [] 1 [])
-    reads_begun = reads_on (Making config 1) (Made config 1) IsEmpty (StandsNow config [] first 0 [] 1 []) b d empty_now (λ o s empty made. inl (first_stands config ranges o s empty made.others made.final)) went
+  pub base_listed : AreListed (highest + 1) 0 (all_files gs begun [])
+  base_listed = listed_next highest 0 (map_of named_file gs) old_listed (omega arith) low
 
-    pub begun_valid : (m later : ℕ) → IfSome b (IsAt m) → m ≤ later → (lists lists' : Option Lists) (room : ℕ) (table : TxState) (buffer : Buffered) (pool : PoolOf) → IfSome lists IsBlank → lists' ≡ option_map (with_receipt 0 m) (option_map (with_base []) lists)
-        → Follows table [] [] → buffer ≡ record { bytes = []; capacity = config.buffer_size; timeout = config.buffer_timeout; since = None } → pool ≡ record { config = config; highest = 1; prepared = [] } → IsPool pool
-        → IsValid d later lists' room config table pool (record { file = first; buffer = buffer; end = 16; appended = 0; durable = 0 })
-    begun_valid m later at on lists lists' room table buffer pool blank is follows fresh bare is_pool =
-        subst (λ (p : PoolOf). IsValid d later lists' room config table p (record { file = first; buffer = buffer; end = 16; appended = 0; durable = 0 })) (sym bare)
-        (subst (λ (u : Buffered). IsValid d later lists' room config table (record { config = config; highest = 1; prepared = [] }) (record { file = first; buffer = u; end = 16; appended = 0; durable = 0 })) (sym fresh) (record {
-          sound = record {
-            parts = record {
-              closed = [];
-              items = [];
-              sure = 0;
-              steps = [];
-              new = λ k x lt. absurd (omega (arith, lt));
-              placed = refl;
-              legal = begun_legal config;
-              follows = follows;
-              same_config = refl;
-              pool_is = subst IsPool bare is_pool;
-              listed = one_listed;
-              numbered = refl;
-              numbers = omega arith;
-              few = omega arith;
-              capacity = refl;
-              timeout = refl;
-              first = (λ e. refl, λ e. refl);
-              some = omega arith;
-              durable = refl;
-              count = refl;
-              buffered = refl;
-              place = refl;
-              fits = omega (arith, ranges.file_size_least);
-            };
-            reads_now = reads_begun;
-            room = λ some. absurd (some refl);
-            told = subst (λ (l : Option Lists). IfSome l (IsTold d config.user_version 0 [] [])) (sym is) (by lists blank);
-          };
-          ranges = ranges;
-          order = subst (λ (l : Option Lists). IfSome l (λ l. AreInOrder later l.receipts)) (sym is) (ordered lists blank);
-          last = subst (λ (l : Option Lists). IfSome l (λ l. IsLastCount 0 l.receipts)) (sym is) (last_count lists blank);
-        }))
-      where
-        by : (o : Option Lists) → IfSome o IsBlank → IfSome (option_map (with_receipt 0 m) (option_map (with_base []) o)) (IsTold d config.user_version 0 [] [])
-        by None blank = tt
-        by (Some l) blank = told_begun (Made config 1) went m at l blank
+  new_data : IsTrue (is_data (data_name (highest + 1)))
+  new_data = number_names (data_name (highest + 1)) (highest + 1) (data_is_read (highest + 1) (omega (arith, low)))
 
-        ordered : (o : Option Lists) → IfSome o IsBlank → IfSome (option_map (with_receipt 0 m) (option_map (with_base []) o)) (λ l. AreInOrder later l.receipts)
-        ordered None blank = tt
-        ordered (Some l) blank = order_begun (Made config 1) went m later on l blank
+  -- none of the old files has its name
+  old_apart : (q : FileName) → IsNamed q gs → q ≡ data_name (highest + 1) → ⊥
+  old_apart q h e = next_apart highest 0 (map_of named_file gs) old_listed (omega (arith, low)) (named_mapped (data_name (highest + 1)) gs (subst (λ (n : FileName). IsNamed n gs) e h))
 
-        last_count : (o : Option Lists) → IfSome o IsBlank → IfSome (option_map (with_receipt 0 m) (option_map (with_base []) o)) (λ l. IsLastCount 0 l.receipts)
-        last_count None blank = tt
-        last_count (Some l) blank = last_more 0 m l.receipts
+  module _ (o s : Files) (was : IsClosedDirectory config.user_version gs o) (others : (q : FileName) → (q ≡ temporary_name (highest + 1) → ⊥) → (q ≡ data_name (highest + 1) → ⊥) → finite.get s q ≡ finite.get o q) where
+    kept : (q : FileName) → Matters q → (q ≡ data_name (highest + 1) → ⊥) → finite.get s q ≡ finite.get o q
+    kept q matters ne = others q (temporary_apart (highest + 1) q matters) ne
+
+    new_stands : finite.get s (data_name (highest + 1)) ≡ Some (file_for config (highest + 1)) → Stands config gs begun 0 [] [] s
+    new_stands there = record {
+      closed_there = closed_kept config.user_version o s gs (λ q h. kept q (inl (closed_data config.user_version o gs q was.there h)) (old_apart q h)) was.there;
+      used_there = prepared_in_use config begun ranges s there;
+      free_there = tt;
+      only = λ n file plain long is. by n file plain long is (same_or_not n (data_name (highest + 1)));
+      uncontrolled = kept control_name (inr refl) (λ e. control_apart (data_name (highest + 1)) new_data (sym e)) ∙ was.uncontrolled;
+    } where
+      by : (n : FileName) (file : File) → IsTrue (is_data n) → 16 ≤ length file.bytes → finite.get s n ≡ Some file → (n ≡ data_name (highest + 1)) ⊎ (n ≡ data_name (highest + 1) → ⊥) → HasName n (all_files gs begun [])
+      by n file plain long is (inl e) = has_back n (map_of named_file gs) (begun ∷ []) (inl (sym e))
+      by n file plain long is (inr ne) = has_closed n gs begun [] (was.only n file plain long (sym (kept n (inl plain) ne) ∙ is))
+
+    new_holds : (finite.get s (data_name (highest + 1)) ≡ finite.get o (data_name (highest + 1))) ⊎ ((finite.get s (data_name (highest + 1)) ≡ Some (file_for config (highest + 1))) × (finite.get s (temporary_name (highest + 1)) ≡ None)) → Holds config.user_version base 0 [] s
+    new_holds (inl same) = closed_holds config.user_version base gs s based (closed_same config.user_version gs o s (kept_but o s (data_name (highest + 1)) kept same) was)
+    new_holds (inr there) = stands_holds config gs [] begun 0 [] (highest + 1) [] base s 0 ranges (λ k x lt. absurd (omega (arith, lt))) (omega arith) (omega (arith, low))
+        (subst (λ (l : List Segment). AreListed (highest + 1) 0 (all_files l begun [])) (sym (append-nil gs)) base_listed) based (omega arith)
+        (subst (λ (l : List Segment). Stands config l begun 0 [] [] s) (sym (append-nil gs)) (new_stands there.0))
+
+  -- while the leftovers are removed
+  reads_cleared : (names : List FileName) (a b : Option Past) → Told a (AreLeft names) → AllReads a (IsClosedDirectory config.user_version gs) → Leaves (Clears names) (Clears names) a b → AllReads b (IsClosedDirectory config.user_version gs)
+  reads_cleared names None b left now went = let F : Option Past → Type 0 = λ h. AllReads h (IsClosedDirectory config.user_version gs) in subst F (sym went) tt
+  reads_cleared names (Some p) b left now went =
+      reads_on (Clears names) (Clears names) (IsClosedDirectory config.user_version gs) (IsClosedDirectory config.user_version gs) (Some p) b now (λ o s closed clears. closed_clears config.user_version names gs o s left.others closed clears) went
+
+  pub kept_cleared : (names : List FileName) (t : ℕ) (a b : Option Past) → Told a (AreLeft names) → AllReads a (IsClosedDirectory config.user_version gs) → Leaves (Clears names) (Clears names) a b
+      → HoldsSince a t (Holds config.user_version base 0 []) → HoldsSince b t (Holds config.user_version base 0 [])
+  kept_cleared names t None b left now went holds = let F : Option Past → Type 0 = λ h. HoldsSince h t (Holds config.user_version base 0 []) in subst F (sym went) tt
+  kept_cleared names t (Some p) b left now went holds =
+      kept_from (Clears names) (Clears names) (Holds config.user_version base 0 []) (IsClosedDirectory config.user_version gs) t (Some p) b holds now
+      (λ o s closed clears. closed_holds config.user_version base gs s based (closed_clears config.user_version names gs o s left.others closed clears)) went
+
+  -- and while the new file is prepared
+  pub kept_making : (names : List FileName) (t : ℕ) (a b d : Option Past) → Told a (AreLeft names) → AllReads a (IsClosedDirectory config.user_version gs) → Leaves (Clears names) (Clears names) a b → Leaves (Making config (highest + 1)) (Making config (highest + 1)) b d
+      → HoldsSince a t (Holds config.user_version base 0 []) → HoldsSince d t (Holds config.user_version base 0 [])
+  kept_making names t a b d left now cleared went holds =
+      kept_from (Making config (highest + 1)) (Making config (highest + 1)) (Holds config.user_version base 0 []) (IsClosedDirectory config.user_version gs) t b d
+      (kept_cleared names t a b left now cleared holds) (reads_cleared names a b left now cleared) (λ o s closed making. new_holds o s closed making.others making.final) went
+
+  -- in the end it is in use
+  pub reads_begun : (names : List FileName) (a b d : Option Past) → Told a (AreLeft names) → AllReads a (IsClosedDirectory config.user_version gs) → Leaves (Clears names) (Clears names) a b → Leaves (Making config (highest + 1)) (Made config (highest + 1)) b d
+      → AllReads d (Stands config gs begun 0 [] [])
+  reads_begun names a b d left now cleared went =
+      reads_on (Making config (highest + 1)) (Made config (highest + 1)) (IsClosedDirectory config.user_version gs) (Stands config gs begun 0 [] []) b d (reads_cleared names a b left now cleared)
+      (λ o s closed made. new_stands o s closed made.others made.final) went
+
+-- ---- what was left is gone
+
+has_or_not : (ns : List FileName) (n : FileName) → Has ns n ⊎ (Has ns n → ⊥)
+has_or_not [] n = inr (λ none. none)
+has_or_not (m ∷ ms) n = by (same_or_not m n) (has_or_not ms n) where
+  by : (m ≡ n) ⊎ (m ≡ n → ⊥) → Has ms n ⊎ (Has ms n → ⊥) → Has (m ∷ ms) n ⊎ (Has (m ∷ ms) n → ⊥)
+  by (inl e) rest = inl (inl e)
+  by (inr ne) (inl h) = inl (inr h)
+  by (inr ne) (inr nh) = inr none
+    where
+      none : Has (m ∷ ms) n → ⊥
+      none (inl e) = ne e
+      none (inr h) = nh h
+
+-- behind the removals
+tidy_cleared : (names : List FileName) (o s : Files) → AreLeft names o → Cleared names o s → IsTidy s
+tidy_cleared names o s left cleared n is = by (has_or_not names n) where
+  by : Has names n ⊎ (Has names n → ⊥) → finite.get s n ≡ None
+  by (inl h) = cleared.gone n (has_contains names n h)
+  by (inr nh) = cleared.others n (λ there. nh (contains_has names n there)) ∙ left.all n is (λ there. nh (contains_has names n there))
+
+-- and behind the new file
+pub told_tidy : (config : Config) (highest : ℕ) (names : List FileName) (a b d : Option Past) → highest < 2 ^ 31 - 1 → Told a (AreLeft names) → Leaves (Clears names) (Cleared names) a b → Leaves (Making config (highest + 1)) (Made config (highest + 1)) b d → Told d IsTidy
+told_tidy config highest names a b d low left cleared went =
+    told_then (Making config (highest + 1)) (Made config (highest + 1)) IsTidy IsTidy b d (told_then (Clears names) (Cleared names) (AreLeft names) IsTidy a b left (λ o s l c. tidy_cleared names o s l c) cleared) (λ o s t m. tidy_made config highest o s low t m) went
+
+-- since the receipt of nothing the base is held
+pub base_now : (wanted highest t : ℕ) (base : List Placed) (h : Option Past) → IsBase h wanted highest base → IfSome h (IsAt t) → t < 2 ^ 64 - 1 → HoldsSince h t (Holds wanted base 0 [])
+base_now wanted highest t base h b at early = holds_now (Holds wanted base 0 []) t h at early (reads_weaker (IsClosedDirectory wanted b.files) (Holds wanted base 0 []) h (λ s closed. closed_holds wanted base b.files s b.records closed) b.reads)
+
+-- ---- what is noted
+
+-- a chronicle that was blank, behind the base and the first receipt
+pub record IsNoted (base : List Placed) (moment : ℕ) (l : Lists) : Type 0 where
+  pub base_is : l.base ≡ base
+  pub steps : l.steps ≡ []
+  pub receipts : l.receipts ≡ record { durable = 0; moment = moment } ∷ []
+
+pub noted : (base : List Placed) (moment : ℕ) (lists lists' : Option Lists) → IfSome lists IsBlank → lists' ≡ option_map (with_receipt 0 moment) (option_map (with_base base) lists) → IfSome lists' (IsNoted base moment)
+noted base moment lists lists' blank is = subst (λ (l : Option Lists). IfSome l (IsNoted base moment)) (sym is) (by lists blank) where
+  by : (o : Option Lists) → IfSome o IsBlank → IfSome (option_map (with_receipt 0 moment) (option_map (with_base base) o)) (IsNoted base moment)
+  by None blank = tt
+  by (Some l) blank = record { base_is = refl; steps = blank.1; receipts = ap (λ (rs : List Receipted). rs ++ record { durable = 0; moment = moment } ∷ []) blank.2 }
+
+module _ (d : Option Past) (wanted : ℕ) (base : List Placed) (m : ℕ) (holds : m < 2 ^ 64 - 1 → HoldsSince d m (Holds wanted base 0 [])) where
+  noted_told : (l : Lists) → IsNoted base m l → IsTold d wanted base 0 [] [] l
+  noted_told l n = record {
+    base = n.base_is;
+    same = n.steps;
+    kept = subst (AreKept d wanted base 0 []) (sym n.receipts) ((omega arith, holds), tt);
+  }
+
+  noted_order : (later : ℕ) → m ≤ later → (l : Lists) → IsNoted base m l → AreInOrder later l.receipts
+  noted_order later on l n = subst (AreInOrder later) (sym n.receipts) (refl, on)
+
+  noted_last : (l : Lists) → IsNoted base m l → IsLastCount 0 l.receipts
+  noted_last l n = subst (IsLastCount 0) (sym n.receipts) refl
+
+-- it is crash safe from the first receipt on
+pub noted_safe : (d : Option Past) (config : Config) (base : List Placed) (m later : ℕ) (lists : Option Lists) → m ≤ later → (m < 2 ^ 64 - 1 → HoldsSince d m (Holds config.user_version base 0 [])) → IfSome lists (IsNoted base m) → IfSome lists (IsCrashSafe d later config.user_version)
+noted_safe d config base m later lists on holds is = if_some (IsNoted base m) (IsCrashSafe d later config.user_version) lists (λ l n.
+    told_safe d later config base 0 [] [] l refl tt (omega arith) (noted_told d config.user_version base m holds l n) (noted_order d config.user_version base m holds later on l n)) is
+
+-- ---- the engine of a journal that began
+
+pub begun_valid : (config : Config) (ranges : IsConfig config) (highest : ℕ) (low : highest < 2 ^ 31 - 1) (base : List Placed) (a d : Option Past) (b : IsBase a config.user_version highest base) (m later : ℕ) (lists : Option Lists) (room : ℕ) (table : TxState) (buffer : Buffered) (pool : PoolOf) (file : PoolFile) → m ≤ later
+    → (m < 2 ^ 64 - 1 → HoldsSince d m (Holds config.user_version base 0 [])) → AllReads d (Stands config b.files (numbered_file (highest + 1)) 0 [] []) → IfSome lists (IsNoted base m) → Follows table base []
+    → buffer ≡ record { bytes = []; capacity = config.buffer_size; timeout = config.buffer_timeout; since = None } → pool ≡ record { config = config; highest = highest + 1; prepared = [] } → IsPool pool → file ≡ numbered_file (highest + 1)
+    → IsValid (rolling base 0) d later lists room config table pool (record { file = file; buffer = buffer; end = 16; appended = 0; durable = 0 })
+begun_valid config ranges highest low base a d b m later lists room table buffer pool file on holds reads is follows fresh bare is_pool begun =
+    subst (λ (f : PoolFile). IsValid (rolling base 0) d later lists room config table pool (record { file = f; buffer = buffer; end = 16; appended = 0; durable = 0 })) (sym begun)
+    (subst (λ (p : PoolOf). IsValid (rolling base 0) d later lists room config table p (record { file = new; buffer = buffer; end = 16; appended = 0; durable = 0 })) (sym bare)
+    (subst (λ (u : Buffered). IsValid (rolling base 0) d later lists room config table (record { config = config; highest = highest + 1; prepared = [] }) (record { file = new; buffer = u; end = 16; appended = 0; durable = 0 })) (sym fresh) (record {
+      sound = record {
+        parts = record {
+          base = base;
+          old = b.files;
+          closed = [];
+          items = [];
+          sure = 0;
+          steps = [];
+          based = b.records;
+          new = λ k x lt. absurd (omega (arith, lt));
+          placed = refl;
+          each = tt;
+          follows = follows;
+          same_config = refl;
+          pool_is = subst IsPool bare is_pool;
+          listed = subst (λ (l : List Segment). AreListed (highest + 1) 0 (all_files l new [])) (sym (append-nil b.files)) (base_listed config ranges highest low base b.files b.records b.ascending b.named b.each);
+          numbers = omega (arith, low);
+          few = omega arith;
+          capacity = refl;
+          timeout = refl;
+          first = (λ e. refl, λ e. refl);
+          some = omega arith;
+          durable = refl;
+          count = refl;
+          buffered = refl;
+          place = refl;
+          fits = omega (arith, ranges.file_size_least);
+        };
+        reads_now = reads_weaker (Stands config b.files new 0 [] []) (StandsNow config (b.files ++ []) new 0 [] (highest + 1) []) d (λ s st. inl (subst (λ (l : List Segment). Stands config l new 0 [] [] s) (sym (append-nil b.files)) st)) reads;
+        room = λ some. absurd (some refl);
+        told = if_some (IsNoted base m) (IsTold d config.user_version base 0 [] []) lists (λ l n. noted_told d config.user_version base m holds l n) is;
+      };
+      ranges = ranges;
+      opening = (refl, refl, tt, refl);
+      order = if_some (IsNoted base m) (λ l. AreInOrder later l.receipts) lists (λ l n. noted_order d config.user_version base m holds later on l n) is;
+      last = if_some (IsNoted base m) (λ l. IsLastCount 0 l.receipts) lists (λ l n. noted_last d config.user_version base m holds l n) is;
+    })))
+  where
+    new : PoolFile
+    new = numbered_file (highest + 1)
+
+-- ---- before the receipt
 
 -- a chronicle without receipts is crash safe
 blank_is_safe : (past : Option Past) (moment wanted : ℕ) (l : Lists) → l.receipts ≡ [] → IsCrashSafe past moment wanted l
@@ -230,43 +285,35 @@ blank_is_safe past moment wanted l none = record {
 pub blank_safe : (past : Option Past) (moment wanted : ℕ) (lists lists' : Option Lists) → lists' ≡ lists → IfSome lists IsBlank → IfSome lists' (IsCrashSafe past moment wanted)
 blank_safe past moment wanted lists lists' is blank = subst (λ (l : Option Lists). IfSome l (IsCrashSafe past moment wanted)) (sym is) (if_some IsBlank (IsCrashSafe past moment wanted) lists (λ l b. blank_is_safe past moment wanted l b.2) blank)
 
--- what only a list was asked of
-pub listed_only : {T : Type 0} (moment : ℕ) (result : Result T DiskError) (lists lists' : Option Lists) (a b : Option Past) → lists' ≡ lists → IfSome lists IsBlank → Notes listing result a b → IfSome lists' (HasCome moment a b)
-listed_only moment result lists lists' a b is blank notes = subst (λ (l : Option Lists). IfSome l (HasCome moment a b)) (sym is) (if_some IsBlank (HasCome moment a b) lists (λ l blank. inl (blank.2, listing_only_asks result a b notes)) blank)
+-- what is so of a blank chronicle, where nothing was noted
+pub still_blank : (P : Lists → Type 0) (lists lists' : Option Lists) → lists' ≡ lists → ((l : Lists) → IsBlank l → P l) → IfSome lists IsBlank → IfSome lists' P
+still_blank P lists lists' is from blank = subst (λ (l : Option Lists). IfSome l P) (sym is) (if_some IsBlank P lists from blank)
 
--- a chronicle that was blank, behind the base and the first receipt
-pub begun_lists : (moment : ℕ) (lists lists' : Option Lists) → IfSome lists IsBlank → lists' ≡ option_map (with_receipt 0 moment) (option_map (with_base []) lists) → IfSome lists' (AreBegun moment)
-begun_lists moment lists lists' blank is = subst (λ (l : Option Lists). IfSome l (AreBegun moment)) (sym is) (by lists blank) where
-  by : (o : Option Lists) → IfSome o IsBlank → IfSome (option_map (with_receipt 0 moment) (option_map (with_base []) o)) (AreBegun moment)
-  by None blank = tt
-  by (Some l) blank = record { base = refl; steps = blank.1; receipts = ap (λ (rs : List Receipted). rs ++ record { durable = 0; moment = moment } ∷ []) blank.2 }
+pub when_fine : {T E : Type 0} (r : Result T E) (P : Type 0) → is_err r ≡ false → OnOk r P → P
+when_fine (Ok x) P is h = h
+when_fine (Err e) P is h = absurd cc
 
--- behind the first receipt
-pub come_so_far : (moment m : ℕ) (lists lists' : Option Lists) (a d : Option Past) → m ≡ counted moment → IfSome lists IsBlank → lists' ≡ option_map (with_receipt 0 m) (option_map (with_base []) lists) → IfSome lists' (HasCome moment a d)
-come_so_far moment m lists lists' a d at blank is = if_some (AreBegun m) (HasCome moment a d) lists' (λ l begun. inr (subst (λ (n : ℕ). AreBegun n l) at begun)) (begun_lists m lists lists' blank is)
+-- ---- behind the receipt
 
--- a fact that doesn't depend on what is told
-pub some_if : (P : Lists → Type 0) (Q : Type 0) (lists : Option Lists) → Q → IfSome lists (λ l. P l ⊎ Q)
-some_if P Q None q = tt
-some_if P Q (Some l) q = inr q
+module _ (base : List Placed) (m : ℕ) (lists : Option Lists) (notes : IfSome lists (IsNoted base m)) where
+  pub noted_steps : IfSome lists (λ l. l.steps ≡ [])
+  noted_steps = if_some (IsNoted base m) (λ l. l.steps ≡ []) lists (λ l n. n.steps) notes
 
--- before anything was asked
-still : (h : Option Past) → Leaves Unchanged Unchanged h h
-still None = refl
-still (Some p) = (p, refl, record { later = omega arith; told = refl; reads = λ s reads. (s, reads, refl); left = λ t s early reads. inl reads; keeps = λ t s reads. reads })
+  pub noted_lists : (P : List Placed → Type 0) → P base → IfSome lists (λ l. (l.steps ≡ []) × P l.base)
+  noted_lists P has = if_some (IsNoted base m) (λ l. (l.steps ≡ []) × P l.base) lists (λ l n. (n.steps, subst P (sym n.base_is) has)) notes
 
-pub asked_nothing : (moment : ℕ) (lists : Option Lists) (h : Option Past) → IfSome lists IsBlank → IfSome lists (HasCome moment h h)
-asked_nothing moment lists h blank = if_some IsBlank (HasCome moment h h) lists (λ l blank. inl (blank.2, still h)) blank
+  pub noted_base : (P : List Placed → Type 0) → P base → IfSome lists (λ l. IsBlank l ⊎ P l.base)
+  noted_base P has = if_some (IsNoted base m) (λ l. IsBlank l ⊎ P l.base) lists (λ l n. inr (subst P (sym n.base_is) has)) notes
 
--- the one prepared file is taken
-pub first_is : (f g : PoolFile) (fs gs : List PoolFile) → f ∷ fs ≡ g ∷ gs → f ≡ g
-first_is f g fs gs e = cc
+  pub noted_begins : (a b d : Option Past) → IfSome b (IsAt m) → Leaves Syncs Syncs a b → GoesOn b d → IfSome lists (λ l. BeginsBySyncs l.receipts a d)
+  noted_begins a b d at syncs goes = if_some (IsNoted base m) (λ l. BeginsBySyncs l.receipts a d) lists (λ l n. subst (λ (rs : List Receipted). BeginsBySyncs rs a d) (sym n.receipts) (syncs_until Anything Anything m a b d at syncs goes)) notes
 
-pool_by : (c d : Config) (h k : ℕ) (fs gs : List PoolFile) → c ≡ d → h ≡ k → fs ≡ gs → (let p : PoolOf = record { config = d; highest = k; prepared = gs } in p) ≡ record { config = c; highest = h; prepared = fs }
-pool_by c d h k fs gs config highest prepared = cc
+-- the new file has the number behind the greatest one, of what is told
+pub told_begun : (files highest id count : ℕ) (h : Option Past) → id ≡ highest + 1 → count ≡ files → highest < 2 ^ 31 - 1 → Told h (HasNumbers files highest) → Told h (λ s. (before : ℕ) × HasNumbers count before s × (id ≡ before + 1) × (before < 2 ^ 31 - 1))
+told_begun files highest id count None is same low told = tt
+told_begun files highest id count (Some p) is same low told = (highest, subst (λ (k : ℕ). HasNumbers k highest (content p.start p.calls)) (sym same) told, is, low)
 
-rest_same : (f g : PoolFile) (fs gs : List PoolFile) → f ∷ fs ≡ g ∷ gs → fs ≡ gs
-rest_same f g fs gs e = cc
-
-pub rest_is : (config : Config) (highest : ℕ) (fs : List PoolFile) (f g : PoolFile) (p : PoolOf) → (let q : PoolOf = record { config = config; highest = highest; prepared = f ∷ fs } in q) ≡ with_first g p → p ≡ record { config = config; highest = highest; prepared = fs }
-rest_is config highest fs f g p e = pool_by config p.config highest p.highest fs p.prepared (ap (λ (q : PoolOf). q.config) e) (ap (λ (q : PoolOf). q.highest) e) (rest_same f g fs p.prepared (ap (λ (q : PoolOf). q.prepared) e))
+-- a fault behind calls of which none failed
+pub behind_fault : (T : Type 0) (fault : DiskFault) (config : Config) (lists : Option Lists) (old new : Option Past) (was mid now : Faults) → was.0 ≤ mid.0 → mid.1 ≡ was.1 → HasFault {T = T} (Err fault) mid now → HasOpenCause config (open_fault fault) lists old new was now
+behind_fault T (f.Disk call) config lists old new was mid now later same cause = (omega (arith, later, cause.0), cause.2)
+behind_fault T f.NoMemory config lists old new was mid now later same cause = cause.1 ∙ same

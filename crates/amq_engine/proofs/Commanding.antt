@@ -1,12 +1,12 @@
 -- What is always so of an engine, through one command.
-use Rattle.std.proofs.Common.{◌≡◌, ℕ, ◌+◌, ◌-◌, ◌^◌, ◌<◌, ◌≤◌, Bool, true, false, cond, ltb, leb, eqb, List, [], ◌∷◌, ◌++◌, length, Option, None, Some, refl, sym, ap, subst, ◌∙◌, arith}
+use Rattle.std.proofs.Common.{◌≡◌, ℕ, ◌+◌, ◌-◌, ◌^◌, ◌<◌, ◌≤◌, Bool, true, false, cond, ltb, leb, eqb, List, [], ◌∷◌, ◌++◌, length, Option, None, Some, refl, sym, ap, subst, ◌∙◌, append_assoc, arith}
 use Rattle.std.specs.Prelude.{IfSome, All, IsTrue, option_map, Result, Ok, Err, OnOk, OnErr, is_err, nat_le, ◌&&◌, not}
 use Rattle.std.specs.List.{AllByRecursion}
 use Rattle.std.specs.List.{cons_option, list_any, count_by}
 use Rattle.std.proofs.lemmas.Bool.{ltb-false, ltb-true, leb-true}
 use Rattle.std.proofs.lemmas.List.{length-append, take-append-le, append-nil}
 use Rattle.std.proofs.lemmas.List.Sums.{count_by-le-length, sum_by-cons}
-use Rattle.std.proofs.lemmas.List.Elements.{All-push, All-head, All-tail}
+use Rattle.std.proofs.lemmas.List.Elements.{All-append, All-push, All-head, All-tail}
 use Rattle.amq_model.specs.declared.record.Record.{Record}
 use Rattle.amq_model.specs.declared.record.Placed.{Placed}
 use Rattle.amq_model.specs.declared.command.Command.{Command}
@@ -23,7 +23,7 @@ use Rattle.amq_model.specs.declared.refusal.Refusal.TheVariants.{FileIdsSpent, T
 use Rattle.amq_model.specs.RecordAt.{IsRecord, len_of, spelling}
 use Rattle.amq_model.specs.Calls.{Past}
 use Rattle.amq_model.specs.Answers.{tx_of, id_of, is_add, works_in_tx, record_of, history_of, too_large, limit, first_some}
-use Rattle.amq_model.specs.Legal.{StandsNext, number_for, needs_file, IsAnswered, IsLegalStep, AreLegal, end_of}
+use Rattle.amq_model.specs.Legal.{StandsNext, number_for, needs_file, IsAnswered, IsLegalStep, AreLegalFrom, AreLegal, end_of}
 use Rattle.amq_model.specs.Effect.{changes, ends, open_changes}
 use Rattle.amq_model.proofs.Keeping.{reads_weaker}
 use Rattle.amq_record.proofs.Records.{length_spelling}
@@ -35,18 +35,18 @@ use Rattle.amq_tx.specs.State.{TxState}
 use Rattle.amq_tx.specs.State.{TurnState, count_of}
 use Rattle.amq_tx.specs.Refusing.{refusal_in, turn_refusal, tx_refusal_in, held_by, holder_in, held_in, live_refusal, view_in, id_refusal_in, spent_in}
 use Rattle.amq_tx.specs.Applying.{CountFits}
-use Rattle.amq_tx.specs.Follows.{Follows, refusal_of, number_of_begin, IsAccepted}
+use Rattle.amq_tx.specs.Follows.{Follows, AreBelow, refusal_of, number_of_begin, IsAccepted}
 use Rattle.amq_tx.proofs.Steps.{refused_follows}
 use Rattle.amq_pool.specs.Pools.{PoolOf, ids_of}
 use Rattle.amq_engine.specs.Lists.{Lists, with_step}
 use Rattle.amq_engine.specs.Directory.{placed_in, StandsNow}
 use Rattle.amq_engine.specs.Receipts.{AreInOrder, IsLastCount}
 use Rattle.amq_engine.specs.declared.tail.Tail.{Tail}
-use Rattle.amq_engine.specs.Engine.{IsNewItem, AreKept, IsTold, Parts, IsSound, IsValid, IsChronicle, IsCommandRefusal, records, spent, passes, refused, bare_reply, reply_of, end_of_tail, with_put, placed_behind, record_len, readied}
+use Rattle.amq_engine.specs.Engine.{IsNewItem, AreKept, IsTold, Parts, IsSound, Stage, opened, HasOpened, IsValid, IsChronicle, IsCommandRefusal, records, spent, passes, refused, bare_reply, reply_of, end_of_tail, with_put, placed_behind, record_len, readied}
 use Rattle.amq_engine.proofs.Texts.{text_grows, end_whole}
 use Rattle.amq_engine.proofs.Receipts.{if_some, if_mapped, kept_grows}
-use Rattle.amq_engine.proofs.History.{behind, records-snoc, length-placed, end_records, few_records, stands_next, answered_none, answered_some, accepted_is, reply_behind, reply_bare, reply_appended, no_record, history-snoc, legal-snoc}
-use Rattle.amq_engine.proofs.Listing.{used_id, closed_ids}
+use Rattle.amq_engine.proofs.History.{behind, records-snoc, length-placed, end_records, few_records, stands_next, answered_none, answered_some, accepted_is, reply_behind, reply_bare, reply_appended, no_record, history-snoc, legal_from}
+use Rattle.amq_engine.proofs.Listing.{used_id, old_ids, closed_ids}
 use Rattle.amq_engine.proofs.Standing.{grows_stand}
 use Rattle.amq_engine.proofs.Sound.{all_durable, sound_room}
 use Rattle.amq_engine.proofs.Recovering.{valid_safe, told_stepped}
@@ -211,8 +211,12 @@ table_kind table command = if_some IsTableRefusal IsCommandRefusal (refusal_in t
 pub tail_end : (config : Config) (table : TxState) (pool : PoolOf) (t : Tail) (p : Parts config table pool t) → end_of_tail t ≡ end_from 2 16 p.items
 tail_end config table pool t p = end_whole t.file.id p.sure t.end p.items t.buffer.bytes p.place p.buffered
 
+-- the files of the base have lesser ids than the file in use
+pub base_below : (config : Config) (table : TxState) (pool : PoolOf) (t : Tail) (p : Parts config table pool t) → AreBelow t.file.id p.base
+base_below config table pool t p = subst (All (λ q. q.file < t.file.id)) p.based (old_ids pool.highest p.old p.closed t.file pool.prepared p.listed)
+
 -- a file is needed only behind a record in the file in use
-needs_one : (config : Config) (table : TxState) (pool : PoolOf) (t : Tail) (p : Parts config table pool t) (command : Command) → IsConfig config → too_large config command ≡ None → passes config.file_size (end_of_tail t) (record_len command) ≡ true → IsTrue (needs_file (history_of p.steps) config command)
+pub needs_one : (config : Config) (table : TxState) (pool : PoolOf) (t : Tail) (p : Parts config table pool t) (command : Command) → IsConfig config → too_large config command ≡ None → passes config.file_size (end_of_tail t) (record_len command) ≡ true → IsTrue (needs_file (history_of p.steps) config command)
 needs_one config table pool t p command ranges small moves = by (record_of command 0) refl where
   by : (o : Option Record) → record_of command 0 ≡ o → IsTrue (needs_file (history_of p.steps) config command)
   by None here = absurd (let e : false ≡ true = sym (ap (λ (o : Option Record). passes config.file_size (end_of_tail t) (option_map len_of o)) here) ∙ moves in cc)
@@ -224,8 +228,8 @@ needs_one config table pool t p command ranges small moves = by (record_of comma
       let at : end_of (history_of p.steps) ≡ end_of_tail t = ap end_of p.placed ∙ end_records p.closed t.file p.items some ∙ sym (tail_end config table pool t p) in
       rw (here, needs_file) (ap (λ (n : ℕ). ltb config.file_size (n + len_of rec)) at ∙ passed)
 
-module _ (past : Option Past) (config : Config) (table : TxState) (pool : PoolOf) (t : Tail) (command : Command) (seat number : ℕ) (producer : 0 < seat) where
-  module _ (lists : Option Lists) (room : ℕ) (s : IsSound past lists room config table pool t) (known : refusal_in table command ≡ refusal_of [] s.parts.steps command) where
+module _ (past : Option Past) (config : Config) (table : TxState) (pool : PoolOf) (t : Tail) (command : Command) (seat number : ℕ) where
+  module _ (lists : Option Lists) (room : ℕ) (s : IsSound past lists room config table pool t) (known : refusal_in table command ≡ refusal_of s.parts.base s.parts.steps command) where
     abbrev history : List Placed
     history = records s.parts.closed t.file s.parts.items
 
@@ -233,24 +237,26 @@ module _ (past : Option Past) (config : Config) (table : TxState) (pool : PoolOf
     appends = s.parts.count ∙ ap (λ (n : ℕ). length (records_of s.parts.closed) + n) (sym (length-placed t.file.id s.parts.items)) ∙ sym (length-append (records_of s.parts.closed) _) ∙ ap length (sym s.parts.placed)
 
     -- the steps with this one more
-    legal_more : (x : Step) → IsLegalStep [] s.parts.steps config x → 0 < x.seat → AreLegal [] (s.parts.steps ++ x ∷ []) config
-    legal_more x one seat = legal-snoc config s.parts.steps x s.parts.legal one seat
+    legal_more : (x : Step) → IsLegalStep s.parts.base s.parts.steps config x → AreLegalFrom s.parts.base config [] (s.parts.steps ++ x ∷ [])
+    legal_more x one = legal_from s.parts.base config [] s.parts.steps x s.parts.each one
 
     -- a step that appends nothing
-    parts_bare : (table' : TxState) (x : Step) → x.placed ≡ None → x.seat ≡ seat → IsLegalStep [] s.parts.steps config x → Follows table' [] (s.parts.steps ++ x ∷ []) → Parts config table' pool t
-    parts_bare table' x bare seated one follows = record {
+    parts_bare : (table' : TxState) (x : Step) → x.placed ≡ None → IsLegalStep s.parts.base s.parts.steps config x → Follows table' s.parts.base (s.parts.steps ++ x ∷ []) → Parts config table' pool t
+    parts_bare table' x bare one follows = record {
+      base = s.parts.base;
+      old = s.parts.old;
       closed = s.parts.closed;
       items = s.parts.items;
       sure = s.parts.sure;
       steps = s.parts.steps ++ x ∷ [];
+      based = s.parts.based;
       new = s.parts.new;
       placed = history-snoc s.parts.steps x ∙ ap (λ (o : Option Placed). history_of s.parts.steps ++ cons_option o []) bare ∙ append-nil (history_of s.parts.steps) ∙ s.parts.placed;
-      legal = legal_more x one (omega (arith, seated, producer));
+      each = legal_more x one;
       follows = follows;
       same_config = s.parts.same_config;
       pool_is = s.parts.pool_is;
       listed = s.parts.listed;
-      numbered = s.parts.numbered;
       numbers = s.parts.numbers;
       few = s.parts.few;
       capacity = s.parts.capacity;
@@ -264,24 +270,24 @@ module _ (past : Option Past) (config : Config) (table : TxState) (pool : PoolOf
       fits = s.parts.fits;
     }
 
-    told_bare : (x : Step) (l : Lists) → IsTold past config.user_version t.durable history s.parts.steps l → IsTold past config.user_version t.durable history (s.parts.steps ++ x ∷ []) (with_step x l)
+    told_bare : (x : Step) (l : Lists) → IsTold past config.user_version s.parts.base t.durable history s.parts.steps l → IsTold past config.user_version s.parts.base t.durable history (s.parts.steps ++ x ∷ []) (with_step x l)
     told_bare x l told = record { base = told.base; same = ap (λ (ss : List Step). ss ++ x ∷ []) told.same; kept = told.kept }
 
     -- a step that appends nothing was noted
-    with_bare : (lists' : Option Lists) (room' : ℕ) (table' : TxState) (x : Step) → x.placed ≡ None → x.seat ≡ seat → IsLegalStep [] s.parts.steps config x → Follows table' [] (s.parts.steps ++ x ∷ []) → lists' ≡ option_map (with_step x) lists → ((t.buffer.bytes ≡ [] → ⊥) → 1 ≤ room') → IsSound past lists' room' config table' pool t
+    with_bare : (lists' : Option Lists) (room' : ℕ) (table' : TxState) (x : Step) → x.placed ≡ None → IsLegalStep s.parts.base s.parts.steps config x → Follows table' s.parts.base (s.parts.steps ++ x ∷ []) → lists' ≡ option_map (with_step x) lists → ((t.buffer.bytes ≡ [] → ⊥) → 1 ≤ room') → IsSound past lists' room' config table' pool t
     unfolding parts_bare
-    with_bare lists' room' table' x bare seated one follows noted more = record {
-      parts = parts_bare table' x bare seated one follows;
+    with_bare lists' room' table' x bare one follows noted more = record {
+      parts = parts_bare table' x bare one follows;
       reads_now = s.reads_now;
       room = more;
-      told = subst (λ (l : Option Lists). IfSome l (IsTold past config.user_version t.durable history (s.parts.steps ++ x ∷ []))) (sym noted)
-          (if_mapped (IsTold past config.user_version t.durable history s.parts.steps) (IsTold past config.user_version t.durable history (s.parts.steps ++ x ∷ [])) (with_step x) lists (told_bare x) s.told);
+      told = subst (λ (l : Option Lists). IfSome l (IsTold past config.user_version s.parts.base t.durable history (s.parts.steps ++ x ∷ []))) (sym noted)
+          (if_mapped (IsTold past config.user_version s.parts.base t.durable history s.parts.steps) (IsTold past config.user_version s.parts.base t.durable history (s.parts.steps ++ x ∷ [])) (with_step x) lists (told_bare x) s.told);
     }
 
     -- what refuses the command is the answer of the journal of one thread, or that the numbers of files are spent
-    answers_refused : IsConfig config → (r : Refusal) → refused config (refusal_in table command) (spent (passes config.file_size (end_of_tail t) (record_len command)) pool.highest (ids_of pool.prepared)) command ≡ Some r → IsAnswered [] s.parts.steps config command (Refused r)
+    answers_refused : IsConfig config → (r : Refusal) → refused config (refusal_in table command) (spent (passes config.file_size (end_of_tail t) (record_len command)) pool.highest (ids_of pool.prepared)) command ≡ Some r → IsAnswered s.parts.base s.parts.steps config command (Refused r)
     answers_refused ranges r is =
-        answered_some s.parts.steps config command (refusal_in table command) (spent (passes config.file_size (end_of_tail t) (record_len command)) pool.highest (ids_of pool.prepared)) r known is
+        answered_some s.parts.base s.parts.steps config command (refusal_in table command) (spent (passes config.file_size (end_of_tail t) (record_len command)) pool.highest (ids_of pool.prepared)) r known is
         (λ small by_numbers. by (passes config.file_size (end_of_tail t) (record_len command)) (ids_of pool.prepared) (leb (2 ^ 31 - 1) pool.highest) refl refl small by_numbers)
       where
         by : (m : Bool) (ids : List ℕ) (b : Bool) → passes config.file_size (end_of_tail t) (record_len command) ≡ m → leb (2 ^ 31 - 1) pool.highest ≡ b → too_large config command ≡ None → spent m pool.highest ids ≡ Some r
@@ -300,27 +306,27 @@ module _ (past : Option Past) (config : Config) (table : TxState) (pool : PoolOf
         → lists' ≡ option_map (with_step (record { seat = seat; number = number; command = command; answer = Refused r; placed = None })) lists → room ≤ room' → IsSound past lists' room' config table pool t
     sound_refused ranges lists' room' r is noted more =
         let x : Step = record { seat = seat; number = number; command = command; answer = Refused r; placed = None } in
-        with_bare lists' room' table x refl refl (record { answered = answers_refused ranges r is; placed = refl })
-        (refused_follows table [] s.parts.steps x r s.parts.follows refl refl) noted (λ some. omega (arith, s.room some, more))
+        with_bare lists' room' table x refl (record { answered = answers_refused ranges r is; placed = refl })
+        (refused_follows table s.parts.base s.parts.steps x r s.parts.follows refl refl) noted (λ some. omega (arith, s.room some, more))
 
     module _ (by_numbers : Option Refusal) (none : refused config (refusal_in table command) by_numbers command ≡ None) where
-      accepted_so : IsAnswered [] s.parts.steps config command (Done (reply_behind s.parts.steps command))
-      accepted_so = answered_none s.parts.steps config command (refusal_in table command) by_numbers known none
+      accepted_so : IsAnswered s.parts.base s.parts.steps config command (Done (reply_behind s.parts.base s.parts.steps command))
+      accepted_so = answered_none s.parts.base s.parts.steps config command (refusal_in table command) by_numbers known none
 
       -- a command without a record was accepted
-      sound_bare : (lists' : Option Lists) (room' : ℕ) (table' : TxState) (given : Option ℕ) → record_of command 0 ≡ None → given ≡ number_of_begin [] s.parts.steps command → (given ≡ None → t.durable ≡ t.appended)
-          → ((x : Step) → IsAccepted [] s.parts.steps command t.file.id x → Follows table' [] (s.parts.steps ++ x ∷ [])) → lists' ≡ option_map (with_step (record { seat = seat; number = number; command = command; answer = Done (bare_reply t.durable given); placed = None })) lists → 1 ≤ room' → IsSound past lists' room' config table' pool t
+      sound_bare : (lists' : Option Lists) (room' : ℕ) (table' : TxState) (given : Option ℕ) → record_of command 0 ≡ None → given ≡ number_of_begin s.parts.base s.parts.steps command → (given ≡ None → t.durable ≡ t.appended)
+          → ((x : Step) → IsAccepted s.parts.base s.parts.steps command t.file.id x → Follows table' s.parts.base (s.parts.steps ++ x ∷ [])) → lists' ≡ option_map (with_step (record { seat = seat; number = number; command = command; answer = Done (bare_reply t.durable given); placed = None })) lists → 1 ≤ room' → IsSound past lists' room' config table' pool t
       sound_bare lists' room' table' given is told all goes noted more =
           let reply : Reply = bare_reply t.durable given in
           let x : Step = record { seat = seat; number = number; command = command; answer = Done reply; placed = None } in
-          let replied : reply ≡ reply_behind s.parts.steps command = reply_bare s.parts.steps command given reply t.durable told is (λ e. all e ∙ appends) refl in
-          with_bare lists' room' table' x refl refl
-          (record { answered = subst (λ (r : Reply). IsAnswered [] s.parts.steps config command (Done r)) (sym replied) accepted_so; placed = is })
-          (goes x (record { is = refl; answered = ap (λ (reply : Reply). Done reply) replied ∙ sym (accepted_is s.parts.steps command); placed = is })) noted (λ some. more)
+          let replied : reply ≡ reply_behind s.parts.base s.parts.steps command = reply_bare s.parts.base s.parts.steps command given reply t.durable told is (λ e. all e ∙ appends) refl in
+          with_bare lists' room' table' x refl
+          (record { answered = subst (λ (r : Reply). IsAnswered s.parts.base s.parts.steps config command (Done r)) (sym replied) accepted_so; placed = is })
+          (goes x (record { is = refl; answered = ap (λ (reply : Reply). Done reply) replied ∙ sym (accepted_is s.parts.base s.parts.steps command); placed = is })) noted (λ some. more)
 
       -- the record was put into the buffer
-      sound_accepted : (lists' : Option Lists) (room' now : ℕ) (table' : TxState) (given : Option ℕ) (rec : Record) → record_of command (number_for (history_of s.parts.steps) command t.file.id) ≡ Some rec → end_of_tail t + len_of rec ≤ config.file_size → IsRecord rec
-          → ((x : Step) → IsAccepted [] s.parts.steps command t.file.id x → Follows table' [] (s.parts.steps ++ x ∷ [])) → lists' ≡ option_map (with_step (record { seat = seat; number = number; command = command; answer = Done (Appended t.appended); placed = Some (placed_behind t rec) })) lists
+      sound_accepted : (lists' : Option Lists) (room' now : ℕ) (table' : TxState) (given : Option ℕ) (rec : Record) → record_of command (number_for (s.parts.base ++ history_of s.parts.steps) command t.file.id) ≡ Some rec → end_of_tail t + len_of rec ≤ config.file_size → IsRecord rec
+          → ((x : Step) → IsAccepted s.parts.base s.parts.steps command t.file.id x → Follows table' s.parts.base (s.parts.steps ++ x ∷ [])) → lists' ≡ option_map (with_step (record { seat = seat; number = number; command = command; answer = Done (Appended t.appended); placed = Some (placed_behind t rec) })) lists
           → 1 ≤ room' → IsSound past lists' room' config table' pool (with_put now (Some rec) t)
       sound_accepted lists' room' now table' given rec is it_fits values goes noted more =
           let p = s.parts in
@@ -330,24 +336,27 @@ module _ (past : Option Past) (config : Config) (table : TxState) (pool : PoolOf
           let history' : List Placed = records p.closed t.file items' in
           let grown : history' ≡ history ++ behind t.file.id p.items item ∷ [] = records-snoc p.closed t.file p.items item in
           let stood_is : placed_behind t rec ≡ behind t.file.id p.items item = ap (λ (n : ℕ). record { file = t.file.id; place = n; compact = 0; rec = rec }) (tail_end config table pool t p) in
-          let replied : Appended t.appended ≡ reply_behind p.steps command = reply_appended p.steps command given rec t.appended _ is appends in
-          let stands : StandsNext [] (history_of p.steps) (placed_behind t rec) =
-          subst (λ (ps : List Placed). StandsNext [] ps (placed_behind t rec)) (sym p.placed) (subst (λ (q : Placed). StandsNext [] history q) (sym stood_is) (stands_next p.closed t.file p.items item (closed_ids pool.highest p.closed t.file pool.prepared p.listed))) in
-          let legal : IsLegalStep [] p.steps config x = record { answered = subst (λ (r : Reply). IsAnswered [] p.steps config command (Done r)) (sym replied) accepted_so; placed = (is, refl, it_fits, stands) } in
+          let replied : Appended t.appended ≡ reply_behind p.base p.steps command = reply_appended p.base p.steps command given rec t.appended _ is appends in
+          let stands : StandsNext p.base (history_of p.steps) (placed_behind t rec) =
+          subst (λ (ps : List Placed). StandsNext p.base ps (placed_behind t rec)) (sym p.placed)
+          (subst (λ (q : Placed). StandsNext p.base history q) (sym stood_is) (stands_next p.base p.closed t.file p.items item (base_below config table pool t p) (closed_ids pool.highest p.old p.closed t.file pool.prepared p.listed))) in
+          let legal : IsLegalStep p.base p.steps config x = record { answered = subst (λ (r : Reply). IsAnswered p.base p.steps config command (Done r)) (sym replied) accepted_so; placed = (is, refl, it_fits, stands) } in
           record {
             parts = record {
+              base = p.base;
+              old = p.old;
               closed = p.closed;
               items = items';
               sure = p.sure;
               steps = p.steps ++ x ∷ [];
+              based = p.based;
               new = All-push IsNewItem p.items item p.new (record { item = record { values = values; small = (omega arith, λ e. refl) }; first = refl });
               placed = history-snoc p.steps x ∙ ap (λ (ps : List Placed). ps ++ placed_behind t rec ∷ []) p.placed ∙ ap (λ (q : Placed). history ++ q ∷ []) stood_is ∙ sym grown;
-              legal = legal_more x legal producer;
-              follows = goes x (record { is = refl; answered = ap (λ (reply : Reply). Done reply) replied ∙ sym (accepted_is p.steps command); placed = (is, refl) });
+              each = legal_more x legal;
+              follows = goes x (record { is = refl; answered = ap (λ (reply : Reply). Done reply) replied ∙ sym (accepted_is p.base p.steps command); placed = (is, refl) });
               same_config = p.same_config;
               pool_is = p.pool_is;
               listed = p.listed;
-              numbered = p.numbered;
               numbers = p.numbers;
               few = p.few;
               capacity = p.capacity;
@@ -360,15 +369,15 @@ module _ (past : Option Past) (config : Config) (table : TxState) (pool : PoolOf
               place = p.place ∙ ap (end_from 2 16) (sym (take-append-le p.sure p.items (item ∷ []) p.some));
               fits = omega (arith, it_fits, length-append t.buffer.bytes (spelling 2 t.file.id 0 rec), length_spelling 2 t.file.id 0 rec);
             };
-            reads_now = reads_weaker (StandsNow config p.closed t.file p.sure p.items pool.highest pool.prepared) (StandsNow config p.closed t.file p.sure items' pool.highest pool.prepared) past
-                (λ f stood. grows_stand config p.closed t.file p.sure p.items pool.highest pool.prepared item p.some f stood) s.reads_now;
+            reads_now = reads_weaker (StandsNow config (p.old ++ p.closed) t.file p.sure p.items pool.highest pool.prepared) (StandsNow config (p.old ++ p.closed) t.file p.sure items' pool.highest pool.prepared) past
+                (λ f stood. grows_stand config (p.old ++ p.closed) t.file p.sure p.items pool.highest pool.prepared item p.some f stood) s.reads_now;
             room = λ some. more;
-            told = subst (λ (l : Option Lists). IfSome l (IsTold past config.user_version t.durable history' (p.steps ++ x ∷ []))) (sym noted)
-                (if_mapped (IsTold past config.user_version t.durable history p.steps) (IsTold past config.user_version t.durable history' (p.steps ++ x ∷ [])) (with_step x) lists
+            told = subst (λ (l : Option Lists). IfSome l (IsTold past config.user_version s.parts.base t.durable history' (p.steps ++ x ∷ []))) (sym noted)
+                (if_mapped (IsTold past config.user_version s.parts.base t.durable history p.steps) (IsTold past config.user_version s.parts.base t.durable history' (p.steps ++ x ∷ [])) (with_step x) lists
                 (λ l told. record {
                   base = told.base;
                   same = ap (λ (ss : List Step). ss ++ x ∷ []) told.same;
-                  kept = subst (λ (h : List Placed). AreKept past config.user_version t.durable h l.receipts) (sym grown) (kept_grows config.user_version t.durable history (behind t.file.id p.items item ∷ []) l.receipts past told.kept);
+                  kept = subst (λ (h : List Placed). AreKept past config.user_version p.base t.durable h l.receipts) (sym grown) (kept_grows config.user_version p.base t.durable history (behind t.file.id p.items item ∷ []) l.receipts past told.kept);
                 }) s.told);
           }
         where
@@ -380,30 +389,38 @@ module _ (past : Option Past) (config : Config) (table : TxState) (pool : PoolOf
           some_spelled rec bytes e = omega (arith, ap length e, length-append bytes (spelling 2 t.file.id 0 rec), length_spelling 2 t.file.id 0 rec, whole_len-pos 2 rec)
 
   -- the command was refused, and the step noted
-  pub valid_refused : (moment : ℕ) (lists lists' : Option Lists) (room room' : ℕ) (r : Refusal) (v : IsValid past moment lists room config table pool t) → refusal_in table command ≡ refusal_of [] v.sound.parts.steps command
+  pub valid_refused : (stage stage' : Stage) (moment : ℕ) (lists lists' : Option Lists) (room room' : ℕ) (r : Refusal) (v : IsValid stage past moment lists room config table pool t) → refusal_in table command ≡ refusal_of v.sound.parts.base v.sound.parts.steps command
       → refused config (refusal_in table command) (spent (passes config.file_size (end_of_tail t) (record_len command)) pool.highest (ids_of pool.prepared)) command ≡ Some r
-      → lists' ≡ option_map (with_step (record { seat = seat; number = number; command = command; answer = Refused r; placed = None })) lists → room ≤ room' → IsValid past moment lists' room' config table pool t
-  valid_refused moment lists lists' room room' r v known is noted more = record {
+      → HasOpened stage' v.sound.parts.base (v.sound.parts.steps ++ record { seat = seat; number = number; command = command; answer = Refused r; placed = None } ∷ [])
+      → lists' ≡ option_map (with_step (record { seat = seat; number = number; command = command; answer = Refused r; placed = None })) lists → room ≤ room' → IsValid stage' past moment lists' room' config table pool t
+  unfolding sound_refused with_bare parts_bare
+  valid_refused stage stage' moment lists lists' room room' r v known is opening noted more = record {
     sound = sound_refused lists room v.sound known v.ranges lists' room' r is noted more;
     ranges = v.ranges;
+    opening = opening;
     order = told_stepped (λ l. AreInOrder moment l.receipts) _ (λ l order. order) lists lists' noted v.order;
     last = told_stepped (λ l. IsLastCount t.durable l.receipts) _ (λ l last. last) lists lists' noted v.last;
   }
 
-  -- the command was accepted, the tail made ready, and the step noted
-  pub valid_accepted : (moment : ℕ) (lists lists' : Option Lists) (room room' now : ℕ) (table' : TxState) (given : Option ℕ) (rec : Option Record) (by_numbers : Option Refusal) (v : IsValid past moment lists room config table pool t) → refusal_in table command ≡ refusal_of [] v.sound.parts.steps command → refused config (refusal_in table command) by_numbers command ≡ None
-      → rec ≡ record_of command (number_for (history_of v.sound.parts.steps) command t.file.id) → given ≡ number_of_begin [] v.sound.parts.steps command → IfSome rec (λ rec. IsRecord rec) → IfSome rec (λ rec. end_of_tail t + len_of rec ≤ config.file_size)
-      → (rec ≡ None → given ≡ None → t.buffer.bytes ≡ []) → ((x : Step) → IsAccepted [] v.sound.parts.steps command t.file.id x → Follows table' [] (v.sound.parts.steps ++ x ∷ []))
-      → lists' ≡ option_map (with_step (record { seat = seat; number = number; command = command; answer = Done (reply_of t given rec); placed = option_map (placed_behind t) rec })) lists → 1 ≤ room' → IsValid past moment lists' room' config table' pool (with_put now rec t)
-  valid_accepted moment lists lists' room room' now table' given None by_numbers v known none is told values fits empty goes noted more = record {
+  -- The command was accepted, the tail made ready, and the step noted. What the opening's steps are behind it is given.
+  pub valid_accepted : (stage stage' : Stage) (moment : ℕ) (lists lists' : Option Lists) (room room' now : ℕ) (table' : TxState) (given : Option ℕ) (rec : Option Record) (by_numbers : Option Refusal) (v : IsValid stage past moment lists room config table pool t)
+      → refusal_in table command ≡ refusal_of v.sound.parts.base v.sound.parts.steps command → refused config (refusal_in table command) by_numbers command ≡ None
+      → rec ≡ record_of command (number_for (v.sound.parts.base ++ history_of v.sound.parts.steps) command t.file.id) → given ≡ number_of_begin v.sound.parts.base v.sound.parts.steps command → IfSome rec (λ rec. IsRecord rec) → IfSome rec (λ rec. end_of_tail t + len_of rec ≤ config.file_size)
+      → (rec ≡ None → given ≡ None → t.buffer.bytes ≡ []) → ((x : Step) → IsAccepted v.sound.parts.base v.sound.parts.steps command t.file.id x → Follows table' v.sound.parts.base (v.sound.parts.steps ++ x ∷ []))
+      → HasOpened stage' v.sound.parts.base (v.sound.parts.steps ++ record { seat = seat; number = number; command = command; answer = Done (reply_of t given rec); placed = option_map (placed_behind t) rec } ∷ [])
+      → lists' ≡ option_map (with_step (record { seat = seat; number = number; command = command; answer = Done (reply_of t given rec); placed = option_map (placed_behind t) rec })) lists → 1 ≤ room' → IsValid stage' past moment lists' room' config table' pool (with_put now rec t)
+  unfolding sound_bare sound_accepted with_bare parts_bare
+  valid_accepted stage stage' moment lists lists' room room' now table' given None by_numbers v known none is told values fits empty goes opening noted more = record {
     sound = sound_bare lists room v.sound known by_numbers none lists' room' table' given (no_record command _ (sym is)) told (λ e. all_durable config table pool t v.sound.parts (empty refl e)) goes noted more;
     ranges = v.ranges;
+    opening = opening;
     order = told_stepped (λ l. AreInOrder moment l.receipts) _ (λ l order. order) lists lists' noted v.order;
     last = told_stepped (λ l. IsLastCount t.durable l.receipts) _ (λ l last. last) lists lists' noted v.last;
   }
-  valid_accepted moment lists lists' room room' now table' given (Some rec) by_numbers v known none is told values fits empty goes noted more = record {
+  valid_accepted stage stage' moment lists lists' room room' now table' given (Some rec) by_numbers v known none is told values fits empty goes opening noted more = record {
     sound = sound_accepted lists room v.sound known by_numbers none lists' room' now table' given rec (sym is) fits values goes noted more;
     ranges = v.ranges;
+    opening = opening;
     order = told_stepped (λ l. AreInOrder moment l.receipts) _ (λ l order. order) lists lists' noted v.order;
     last = told_stepped (λ l. IsLastCount t.durable l.receipts) _ (λ l last. last) lists lists' noted v.last;
   }
@@ -413,22 +430,21 @@ module _ (past : Option Past) (config : Config) (table : TxState) (pool : PoolOf
 -- there are few enough appends to count
 pub few_appends : (config : Config) (table : TxState) (pool : PoolOf) (t : Tail) → IsConfig config → Parts config table pool t → t.appended < 2 ^ 64 - 1
 few_appends config table pool t ranges p =
-    let id = used_id pool.highest p.closed t.file pool.prepared p.listed in
-    omega (arith, few_records p.items, tail_end config table pool t p, p.fits, ranges.file_size_most, p.count, p.few, id.1, p.numbers)
+    omega (arith, few_records p.items, tail_end config table pool t p, p.fits, ranges.file_size_most, p.count, p.few, used_id pool.highest (p.old ++ p.closed) t.file pool.prepared p.listed, p.numbers)
 
 -- the file in use has a number of 31 bits
 pub small_id : (config : Config) (table : TxState) (pool : PoolOf) (t : Tail) → Parts config table pool t → t.file.id < 2 ^ 31
-small_id config table pool t p = let id = used_id pool.highest p.closed t.file pool.prepared p.listed in omega (arith, id.1, p.numbers)
+small_id config table pool t p = omega (arith, used_id pool.highest (p.old ++ p.closed) t.file pool.prepared p.listed, p.numbers)
 
 -- what clauses say of the chronicle
-pub valid_chronicle : (past : Option Past) (moment : ℕ) (lists : Option Lists) (room : ℕ) (config : Config) (table : TxState) (pool : PoolOf) (t : Tail) → IsValid past moment lists room config table pool t → IfSome lists (IsChronicle past moment config t.appended t.durable)
+pub valid_chronicle : (past : Option Past) (moment : ℕ) (lists : Option Lists) (room : ℕ) (config : Config) (table : TxState) (pool : PoolOf) (t : Tail) → IsValid opened past moment lists room config table pool t → IfSome lists (IsChronicle past moment config t.appended t.durable)
 valid_chronicle past moment None room config table pool t v = tt
 valid_chronicle past moment (Some l) room config table pool t v =
     let p = v.sound.parts in
     record {
-      legal = subst (λ (b : List Placed). AreLegal b l.steps config) (sym v.sound.told.base) (subst (λ (ss : List Step). AreLegal [] ss config) (sym v.sound.told.same) p.legal);
+      legal = subst (λ (b : List Placed). AreLegal b l.steps config) (sym v.sound.told.base) (subst (λ (ss : List Step). AreLegal p.base ss config) (sym v.sound.told.same) (record { each = p.each; opening = v.opening }));
       history = p.count ∙ ap (λ (n : ℕ). length (records_of p.closed) + n) (sym (length-placed t.file.id p.items)) ∙ sym (length-append (records_of p.closed) _) ∙ ap length (sym p.placed) ∙ ap (λ (ss : List Step). length (history_of ss)) (sym v.sound.told.same);
-      crash_safe = valid_safe past moment (Some l) room config table pool t v;
+      crash_safe = valid_safe opened past moment (Some l) room config table pool t v;
       last = v.last;
     }
 
@@ -451,8 +467,11 @@ count_behind id (x ∷ xs) ys below =
 turn_fits : (config : Config) (table : TxState) (pool : PoolOf) (t : Tail) (tx : ℕ) → IsConfig config → Parts config table pool t → count_of (table.turns tx) t.file.id < 2 ^ 32 - 1
 turn_fits config table pool t tx ranges p =
     let id = t.file.id in
-    let few = count_behind id (records_of p.closed) (placed_in id p.items) (closed_ids pool.highest p.closed t.file pool.prepared p.listed) in
-    omega (arith, p.follows.counts tx id (λ k d lt. absurd (omega (arith, lt))), open_few id tx (history_of p.steps), ap (λ (l : List Placed). count_by (λ q. eqb q.file id) l) p.placed, few, length-placed id p.items, few_records p.items, tail_end config table pool t p, p.fits, ranges.file_size_most)
+    let before : List Placed = p.base ++ records_of p.closed in
+    let all : p.base ++ history_of p.steps ≡ before ++ placed_in id p.items = ap (λ (l : List Placed). p.base ++ l) p.placed ∙ sym (append_assoc p.base (records_of p.closed) (placed_in id p.items)) in
+    let below : All (λ q. q.file < id) before = All-append (λ q. q.file < id) p.base (records_of p.closed) (base_below config table pool t p) (closed_ids pool.highest p.old p.closed t.file pool.prepared p.listed) in
+    let few = count_behind id before (placed_in id p.items) below in
+    omega (arith, p.follows.counts tx id (base_below config table pool t p), open_few id tx (p.base ++ history_of p.steps), ap (λ (l : List Placed). count_by (λ q. eqb q.file id) l) all, few, length-placed id p.items, few_records p.items, tail_end config table pool t p, p.fits, ranges.file_size_most)
 
 -- the count of the command's transaction may rise
 pub count_fits : (config : Config) (table : TxState) (pool : PoolOf) (t : Tail) (command : Command) → IsConfig config → Parts config table pool t → CountFits table command t.file.id
@@ -469,10 +488,12 @@ count_fits config table pool t (c.Commit tx) ranges p = turn_fits config table p
 count_fits config table pool t (c.Rollback tx) ranges p = turn_fits config table pool t tx ranges p
 
 -- with the same lists, and room at least as much
-pub valid_room : (past : Option Past) (moment : ℕ) (lists lists' : Option Lists) (room room' : ℕ) (config : Config) (table : TxState) (pool : PoolOf) (t : Tail) → lists' ≡ lists → room ≤ room' → IsValid past moment lists room config table pool t → IsValid past moment lists' room' config table pool t
-valid_room past moment lists lists' room room' config table pool t same more v = record {
+pub valid_room : (stage : Stage) (past : Option Past) (moment : ℕ) (lists lists' : Option Lists) (room room' : ℕ) (config : Config) (table : TxState) (pool : PoolOf) (t : Tail) → lists' ≡ lists → room ≤ room' → IsValid stage past moment lists room config table pool t → IsValid stage past moment lists' room' config table pool t
+unfolding sound_room
+valid_room stage past moment lists lists' room room' config table pool t same more v = record {
   sound = sound_room past lists lists' room room' config table pool t same more v.sound;
   ranges = v.ranges;
+  opening = v.opening;
   order = subst (λ (l : Option Lists). IfSome l (λ l. AreInOrder moment l.receipts)) (sym same) v.order;
   last = subst (λ (l : Option Lists). IfSome l (λ l. IsLastCount t.durable l.receipts)) (sym same) v.last;
 }

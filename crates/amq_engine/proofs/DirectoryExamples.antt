@@ -23,12 +23,12 @@ use Rattle.amq_model.proofs.Crashes.{file, nothing, one, has_one}
 use Rattle.amq_header.specs.Classes.{data_name}
 use Rattle.amq_record.specs.Reading.{compact_at, read_at, front_of, fields_at, layout_at, typed_at, sized_at, len_at}
 use Rattle.amq_scan.specs.Written.{Item, IsFill, file_bytes}
-use Rattle.amq_scan.specs.Segments.{Segment, records_of, AreAscending, IsNamed, end_of_spots, IsSegment, IsThere, AreThere, IsDirectory}
+use Rattle.amq_scan.specs.Segments.{Segment, records_of, AreAscending, IsNamed, end_of_spots, IsSegment, IsThere, AreThere, IsDirectory, IsClosed, AreClosed, IsClosedDirectory}
 use Rattle.amq_scan.proofs.Examples.{scan_by_reading, header, add_hi, hi_at, yo_at}
 use Rattle.amq_scan.proofs.Scans.{same_scan}
 use Rattle.amq_pool.specs.declared.pool.PoolFile.{PoolFile}
 use Rattle.amq_pool.specs.Pools.{numbered_file, header_for, file_for}
-use Rattle.amq_engine.specs.Directory.{placed_in, segment, bare, named_file, all_files, HasName, AreListed, files_from, IsClosed, AreClosed, IsInUse, ArePrepared, IsEmpty, Stands, StandsNow, AreNumbered, IsJournal}
+use Rattle.amq_engine.specs.Directory.{placed_in, segment, bare, named_file, all_files, HasName, AreListed, files_from, IsInUse, ArePrepared, IsEmpty, Stands, StandsNow, IsJournal}
 use Rattle.amq_engine.specs.Engine.{Holds}
 use Rattle.amq_engine.proofs.Segments.{number_names}
 
@@ -260,17 +260,16 @@ another_name l = let named = l.2 in none-some named.0 named.1
 pub one_name_twice : AreListed 2 1 (record { name = first; id = 1 } ∷ record { name = first; id = 2 } ∷ []) → ⊥
 one_name_twice l = l.3 (inl refl)
 
--- numbered from 1 on
-pub two_are_numbered : AreNumbered 1 (one_record ∷ with_records 2 [] ∷ [])
-two_are_numbered = (refl, (refl, tt))
+-- ids begin at any number
+pub an_id_of_none : AreListed 2 0 (record { name = first; id = 0 } ∷ numbered_file 2 ∷ [])
+an_id_of_none = (omega arith, omega arith, (1, first_number, omega arith), apart, (omega arith, omega arith, (2, second_number, omega arith), (λ none. none), tt)) where
+  apart : HasName first (numbered_file 2 ∷ []) → ⊥
+  apart (inl e) = second_isnt_first e
+  apart (inr none) = none
 
--- the first one has number 2
-pub one_is_left_out : AreNumbered 1 (with_records 2 [] ∷ []) → ⊥
-one_is_left_out n = let id : ◌≡◌ {A = ℕ} 2 1 = ap (λ (f : PoolFile). f.id) n.0 in omega (arith, id)
-
--- a name with another number than the id
-pub another_number : AreNumbered 1 (record { name = second; id = 1; spots = [] } ∷ []) → ⊥
-another_number n = second_isnt_first (ap (λ (f : PoolFile). f.name) n.0)
+-- and at none below the least one
+pub an_id_below : AreListed 2 1 (record { name = first; id = 0 } ∷ []) → ⊥
+an_id_below l = omega (arith, l.0)
 
 -- ---- no file
 
@@ -435,6 +434,10 @@ not_prepared_at_all a = none-some (file_for config 2) (sym (finite.get-empty (sl
 
 -- ---- the directory of a journal
 
+-- a file of one byte
+abbrev short : File
+short = file (0 ∷ []) []
+
 -- the first file has a record, all of it durable, and the second one is prepared
 abbrev first_two : Files
 first_two = both (file with_hi []) (file_for config 2)
@@ -468,7 +471,7 @@ one_in_use_and_one_prepared = record {
   closed_there = tt;
   used_there = all_durable first_two (first_there (file with_hi []) (file_for config 2));
   free_there = (second_there (file with_hi []) (file_for config 2), tt);
-  only = λ n x is there. named_both (file with_hi []) (file_for config 2) x n there;
+  only = λ n x is size there. named_both (file with_hi []) (file_for config 2) x n there;
   uncontrolled = no_control_in_both (file with_hi []) (file_for config 2);
 }
 
@@ -478,13 +481,28 @@ one_closed_and_one_in_use = record {
   closed_there = (record { file = file with_hi []; there = first_there (file with_hi []) (file_for config 2); is = hi_in_a_segment; still = λ i p. p }, tt);
   used_there = second_in_use first_two (second_there (file with_hi []) (file_for config 2));
   free_there = tt;
-  only = λ n x is there. named_both (file with_hi []) (file_for config 2) x n there;
+  only = λ n x is size there. named_both (file with_hi []) (file_for config 2) x n there;
   uncontrolled = no_control_in_both (file with_hi []) (file_for config 2);
 }
 
 -- a data file that isn't listed
 pub one_file_too_many : Stands config [] (numbered_file 1) 1 (hi ∷ []) [] first_two → ⊥
-one_file_too_many s = the_second_isnt_there (s.only second (file_for config 2) (number_names second 2 second_number) (second_there (file with_hi []) (file_for config 2)))
+one_file_too_many s = the_second_isnt_there (s.only second (file_for config 2) (number_names second 2 second_number) second_without_records.long (second_there (file with_hi []) (file_for config 2)))
+
+-- a data file's name with one byte isn't a data file
+pub beside_a_short_file : Stands config [] (numbered_file 1) 1 (hi ∷ []) [] (both (file with_hi []) short)
+beside_a_short_file = record {
+  closed_there = tt;
+  used_there = all_durable (both (file with_hi []) short) (first_there (file with_hi []) short);
+  free_there = tt;
+  only = λ n x is size there. by x n size there (one_of_both (file with_hi []) short x n there);
+  uncontrolled = no_control_in_both (file with_hi []) short;
+} where
+  by : (x : File) (n : FileName) → 16 ≤ length x.bytes → finite.get (both (file with_hi []) short) n ≡ Some x → (first ≡ n) ⊎ (second ≡ n) → HasName n (numbered_file 1 ∷ [])
+  by x n size there (inl e) = inl e
+  by x n size there (inr e) =
+      let same : short ≡ x = same_Some short x (sym (second_there (file with_hi []) short) ∙ ap (finite.get (both (file with_hi []) short)) e ∙ there) in
+      absurd (omega (arith, size, ap (λ (f : File). length f.bytes) same))
 
 -- a prepared file that isn't there
 pub one_file_too_few : Stands config [] (numbered_file 1) 1 (hi ∷ []) (numbered_file 2 ∷ []) (one first (file with_hi [])) → ⊥
@@ -527,65 +545,41 @@ the_two_files = record {
   uncontrolled = no_control_in_both (file with_hi []) (file_for config 2);
 }
 
+-- the first file has its record, the second one none, and nothing is pending
+two_closed_files : IsClosedDirectory 0 (one_record ∷ with_records 2 [] ∷ []) first_two
+two_closed_files = record {
+  ascending = the_two_files.ascending;
+  there = (
+    record { file = file with_hi []; there = first_there (file with_hi []) (file_for config 2); is = hi_in_a_segment; still = λ i p. p },
+    (record { file = file_for config 2; there = second_there (file with_hi []) (file_for config 2); is = second_without_records; still = λ i p. p }, tt),
+  );
+  only = the_two_files.only;
+  uncontrolled = the_two_files.uncontrolled;
+}
+
 -- what an opening leaves: two files without a record
-pub a_journal_that_began : IsJournal 0 1 2 [] (both (file_for config 1) (file_for config 2))
+pub a_journal_that_began : IsJournal 0 [] [] (both (file_for config 1) (file_for config 2))
 a_journal_that_began = record {
-  files = with_records 1 [] ∷ [];
-  free = with_records 2 [] ∷ [];
+  files = with_records 1 [] ∷ with_records 2 [] ∷ [];
   is = record {
     ascending = (omega arith, (omega arith, tt));
     there = (
-      record { file = file_for config 1; there = first_there (file_for config 1) (file_for config 2); is = first_without_records; behind = λ i p. absurd p },
-      (record { file = file_for config 2; there = second_there (file_for config 1) (file_for config 2); is = second_without_records; behind = λ i p. absurd p }, tt),
+      record { file = file_for config 1; there = first_there (file_for config 1) (file_for config 2); is = first_without_records; still = λ i p. p },
+      (record { file = file_for config 2; there = second_there (file_for config 1) (file_for config 2); is = second_without_records; still = λ i p. p }, tt),
     );
     only = λ n x is size there. named_segments (file_for config 1) (file_for config 2) x [] [] n there;
     uncontrolled = no_control_in_both (file_for config 1) (file_for config 2);
   };
-  numbered = (refl, (refl, tt));
-  with_records = refl;
-  many = omega arith;
-  empty = refl;
   records = refl;
 }
 
 -- one record in the first file
-pub a_journal_of_one_record : IsJournal 0 1 2 (hi_placed ∷ []) first_two
-a_journal_of_one_record = record {
-  files = one_record ∷ [];
-  free = with_records 2 [] ∷ [];
-  is = the_two_files;
-  numbered = two_are_numbered;
-  with_records = refl;
-  many = omega arith;
-  empty = refl;
-  records = refl;
-}
+pub a_journal_of_one_record : IsJournal 0 [] (hi_placed ∷ []) first_two
+a_journal_of_one_record = record { files = one_record ∷ with_records 2 [] ∷ []; is = two_closed_files; records = refl }
 
--- the same directory when the journal went on to the second file
-pub a_journal_that_went_on : IsJournal 0 2 2 (hi_placed ∷ []) first_two
-a_journal_that_went_on = record {
-  files = one_record ∷ with_records 2 [] ∷ [];
-  free = [];
-  is = the_two_files;
-  numbered = two_are_numbered;
-  with_records = refl;
-  many = omega arith;
-  empty = refl;
-  records = refl;
-}
-
--- a journal of three files has the third one
-has_third : (wanted sure : ℕ) (s : Files) (gs : List Segment) → 3 ≤ length gs → AreNumbered 1 gs → AreThere wanted sure s gs → finite.get s third ≡ None → ⊥
-has_third wanted sure s [] many numbered there none = omega (arith, many)
-has_third wanted sure s (a ∷ []) many numbered there none = omega (arith, many)
-has_third wanted sure s (a ∷ b ∷ []) many numbered there none = omega (arith, many)
-has_third wanted sure s (a ∷ b ∷ c ∷ gs) many numbered there none = none-some is.file (sym none ∙ sym (ap (λ (f : PoolFile). finite.get s f.name) numbered.1.1.0) ∙ is.there) where
-  is : IsThere wanted (sure - length a.spots - length b.spots) s c
-  is = there.1.1.0
-
--- two files aren't three
-pub not_three_files : IsJournal 0 1 3 (hi_placed ∷ []) first_two → ⊥
-not_three_files j = has_third 0 1 first_two (j.files ++ j.free) j.many j.numbered j.is.there (no_third_in_both (file with_hi []) (file_for config 2))
+-- the record was there at the opening, and no other was appended
+pub a_journal_of_a_base : IsJournal 0 (hi_placed ∷ []) [] first_two
+a_journal_of_a_base = record { files = one_record ∷ with_records 2 [] ∷ []; is = two_closed_files; records = refl }
 
 -- ---- what a reading holds
 
@@ -617,9 +611,30 @@ all_read wanted pending g x there segment = (id, same_scan with_hi 1 2 16 (hi_at
   id : 1 ≡ g.id
   id = is.id
 
+-- closed files are there
+closed_are_there : (wanted sure : ℕ) (s : Files) (gs : List Segment) → AreClosed wanted s gs → AreThere wanted sure s gs
+closed_are_there wanted sure s [] c = tt
+closed_are_there wanted sure s (g ∷ gs) c = (record { file = c.0.file; there = c.0.there; is = c.0.is; behind = λ i p. absurd (c.0.still i p) }, closed_are_there wanted (sure - length g.spots) s gs c.1)
+
 -- a lost record
-pub a_record_is_lost : IsJournal 0 1 1 (hi_placed ∷ []) (one first (file_for config 1)) → ⊥
-a_record_is_lost j = let e : hi_placed ∷ [] ≡ [] = j.records ∙ none_read 0 1 j.files j.free j.is.there in absurd cc
+pub a_record_is_lost : IsJournal 0 [] (hi_placed ∷ []) (one first (file_for config 1)) → ⊥
+a_record_is_lost j = absurd (let e : hi_placed ∷ [] ≡ [] = sym j.records ∙ none in cc) where
+  none : records_of j.files ≡ []
+  none = none_read 0 1 j.files [] (subst (AreThere 0 1 (one first (file_for config 1))) (sym (append-nil j.files)) (closed_are_there 0 1 (one first (file_for config 1)) j.files j.is.there))
+
+-- a lost record of the base
+pub a_record_of_the_base_is_lost : IsJournal 0 (hi_placed ∷ []) [] (one first (file_for config 1)) → ⊥
+a_record_of_the_base_is_lost j = a_record_is_lost (record { files = j.files; is = j.is; records = j.records })
+
+-- a byte behind the record is pending
+pub a_byte_is_pending : IsJournal 0 [] (hi_placed ∷ []) (one first (file with_hi ((63, 1) ∷ []))) → ⊥
+a_byte_is_pending j = by j.files (j.is.only first (file with_hi ((63, 1) ∷ [])) (number_names first 1 first_number) (omega arith) (there_is_one first (file with_hi ((63, 1) ∷ [])))) j.is.there where
+  by : (gs : List Segment) → IsNamed first gs → AreClosed 0 (one first (file with_hi ((63, 1) ∷ []))) gs → ⊥
+  by [] named closed = named
+  by (g ∷ gs) (inl e) closed =
+      let still : (i : ℕ) → IsPending ((63, 1) ∷ []) i → ⊥ = subst (λ (f : File). (i : ℕ) → IsPending f.pending i → ⊥) (sym (one_file (file with_hi ((63, 1) ∷ [])) closed.0.file g.name closed.0.there)) closed.0.still in
+      still 63 (inl (omega arith, omega arith))
+  by (g ∷ gs) (inr h) closed = by gs h closed.1
 
 -- a directory of the first file with its record, of which so many are durable
 one_listed : (wanted sure : ℕ) (pending : List Range) → ((i : ℕ) → IsPending pending i → end_of_spots 16 (take sure (hi_at 16 ∷ [])) ≤ i) → wanted ≡ 0 → IsDirectory wanted sure (one_record ∷ []) (one first (file with_hi pending))

@@ -1,11 +1,18 @@
 -- Commands and ticks on an engine of literal numbers: which of them flush or go on to a further file, and what they leave.
-use Rattle.std.proofs.Common.{◌≡◌, inl, inr, ℕ, ◌+◌, ◌*◌, ◌-◌, ◌^◌, true, false, List, [], ◌∷◌, replicate, Option, None, Some, refl, ap, arith}
+use Rattle.std.proofs.Common.{◌≡◌, inl, inr, ℕ, ◌+◌, ◌*◌, ◌-◌, ◌^◌, ◌<◌, true, false, List, [], ◌∷◌, length, replicate, Option, None, Some, refl, ap, arith}
 use Rattle.std.proofs.lemmas.Bool.{false≢true}
-use Rattle.amq_model.specs.declared.command.Command.TheVariants.{Add, Update, Delete, Begin, AddTx, Commit, Flush}
+use Rattle.std.proofs.lemmas.List.Elements.{All-nil, All-cons}
+use Rattle.amq_model.specs.declared.command.Command.TheVariants.{Add, Update, Delete, Begin, AddTx, Commit, Rollback, Flush}
 use Rattle.amq_model.specs.declared.config.Config.{Config}
+use Rattle.amq_model.specs.declared.command.Reply.TheVariants.{Appended}
+use Rattle.amq_model.specs.declared.history.Answer.TheVariants.{Done, Refused}
+use Rattle.amq_model.specs.declared.history.Step.{Step}
+use Rattle.amq_model.specs.declared.record.Placed.{Placed}
+use Rattle.amq_model.specs.declared.record.Record.TheVariants as r
+use Rattle.amq_model.specs.Legal.{IsOpeningStep}
 use Rattle.amq_model.specs.declared.refusal.DiskCall.TheVariants.{Rename}
 use Rattle.amq_model.specs.declared.refusal.Refusal.TheVariants.{TooLarge, NoRecord, FileIdsSpent}
-use Rattle.amq_engine.specs.Engine.{EngineOf, flushes, moves, prepares, asks_disk, spent, refused, must_flush, behind_command, behind_tick, BehindRefused}
+use Rattle.amq_engine.specs.Engine.{EngineOf, flushes, moves, prepares, asks_disk, spent, refused, must_flush, behind_command, behind_tick, BehindRefused, opened, rolling, HasOpened}
 
 -- files of 1024 bytes, and a buffer of 100, the first record of which waits at most 3 ticks
 abbrev config : Config
@@ -336,3 +343,61 @@ nothing_waits = refl
 -- then the clock alone goes on
 pub a_tick_of_nothing : behind_tick 100 (engine 4 4 0 None 7) ≡ engine 4 4 0 None 100
 a_tick_of_nothing = refl
+
+-- ---- how far an opening is
+
+-- an add of transaction 1, which has no end
+abbrev left_open : List Placed
+left_open = record { file = 1; place = 16; compact = 0; rec = r.AddTx 1 3 7 [] } ∷ []
+
+-- its rollback, as this seat's command of this number
+abbrev rolls_back : ℕ → ℕ → Step
+rolls_back seat number = record { seat = seat; number = number; command = Rollback 1; answer = Done (Appended 0); placed = Some (record { file = 2; place = 16; compact = 0; rec = r.Rollback 1 }) }
+
+-- the opening's own
+is_the_first : IsOpeningStep 1 1 (rolls_back 0 1)
+is_the_first = record { seat = refl; number = refl; command = refl }
+
+-- where nothing was there, nothing is rolled back
+pub nothing_to_roll_back : HasOpened opened [] []
+nothing_to_roll_back = λ k x lt. absurd (omega (arith, lt))
+
+-- so is it where the opening begins
+pub it_begins : HasOpened (rolling left_open 0) left_open []
+it_begins = (refl, refl, tt, refl)
+
+-- the rollback is appended, and is the only one
+pub one_is_rolled_back : HasOpened (rolling left_open 1) left_open (rolls_back 0 1 ∷ [])
+one_is_rolled_back = (refl, refl, (is_the_first, tt), refl)
+
+-- then the opening is done
+pub all_are_rolled_back : HasOpened opened left_open (rolls_back 0 1 ∷ [])
+all_are_rolled_back = (is_the_first, λ k x lt. absurd (omega (arith, lt)))
+
+-- and a command of another seat may follow
+pub one_command_follows : HasOpened opened left_open (rolls_back 0 1 ∷ rolls_back 4 1 ∷ [])
+one_command_follows = (is_the_first, All-cons (λ s. 0 < s.seat) (rolls_back 4 1) [] (omega arith) (All-nil (λ s. 0 < s.seat)))
+
+-- it isn't done before
+pub not_done_without_it : HasOpened opened left_open [] → ⊥
+not_done_without_it h = h
+
+-- another seat's doesn't count
+pub not_of_another_seat : HasOpened (rolling left_open 1) left_open (rolls_back 4 1 ∷ []) → ⊥
+not_of_another_seat h = let seat : ◌≡◌ {A = ℕ} 4 0 = h.2.0.seat in omega (arith, seat)
+
+-- no other step stands behind those of an opening that isn't done
+pub not_one_more : HasOpened (rolling left_open 2) left_open (rolls_back 0 1 ∷ rolls_back 4 1 ∷ []) → ⊥
+not_one_more h = h.2.1
+
+-- nor is one that was refused
+pub not_refused : HasOpened (rolling left_open 1) left_open (record { seat = 0; number = 1; command = Rollback 1; answer = Refused (NoRecord 7); placed = None } ∷ []) → ⊥
+not_refused h = let many : ◌≡◌ {A = ℕ} 0 1 = h.3 in omega (arith, many)
+
+-- how many there are is told
+pub not_two : HasOpened (rolling left_open 2) left_open (rolls_back 0 1 ∷ []) → ⊥
+not_two h = let many : ◌≡◌ {A = ℕ} 1 2 = h.1 in omega (arith, many)
+
+-- and of which base
+pub not_of_another_base : HasOpened (rolling left_open 0) [] [] → ⊥
+not_of_another_base h = let many : ◌≡◌ {A = ℕ} 0 1 = ap length h.0 in omega (arith, many)

@@ -14,8 +14,8 @@ use Rattle.amq_engine.specs.Puts.{Puts, Put}
 use Rattle.amq_tx.specs.State.{TxState}
 use Rattle.amq_engine.specs.declared.tail.Tail.{Tail}
 use Rattle.amq_model.specs.declared.refusal.DiskCall.{DiskCall}
-use Rattle.amq_engine.specs.Engine.{EngineOf, Parts, IsValid, end_of_tail, written_out, receipted, flushed}
-use Rattle.amq_engine.proofs.Sound.{sound_failed, sound_put, put_out, all_durable}
+use Rattle.amq_engine.specs.Engine.{EngineOf, Parts, Stage, IsValid, end_of_tail, written_out, receipted, flushed}
+use Rattle.amq_engine.proofs.Sound.{parts_put, sound_failed, sound_put, put_out, all_durable}
 use Rattle.amq_engine.proofs.Recovering.{told_later, receipted_order, receipted_last}
 
 -- a buffer that isn't empty has bytes
@@ -23,11 +23,13 @@ pub some_bytes : (empty : Bool) (bytes : List ℕ) → (IsTrue empty ↔ (bytes 
 some_bytes empty bytes told not_empty none = false≢true (sym not_empty ∙ told.1 none)
 
 -- the bytes were put, synced, and the receipt noted
-pub valid_put : (a b : Option Past) (moment later m : ℕ) (lists lists' : Option Lists) (room room' : ℕ) (config : Config) (table : TxState) (pool : PoolOf) (t : Tail) (name : FileName) (bytes : List ℕ) → name ≡ t.file.name → bytes ≡ t.buffer.bytes → (t.buffer.bytes ≡ [] → ⊥)
-    → Leaves (Puts name t.end bytes) (Put name t.end bytes) a b → IfSome b (IsAt m) → m ≡ later → later ≡ counted (counted moment) → lists' ≡ option_map (with_receipt t.appended m) lists → IsValid a moment lists room config table pool t → IsValid b later lists' room' config table pool (put_out t)
-valid_put a b moment later m lists lists' room room' config table pool t name bytes named same waits leaves at now twice noted v = record {
+pub valid_put : (stage : Stage) (a b : Option Past) (moment later m : ℕ) (lists lists' : Option Lists) (room room' : ℕ) (config : Config) (table : TxState) (pool : PoolOf) (t : Tail) (name : FileName) (bytes : List ℕ) → name ≡ t.file.name → bytes ≡ t.buffer.bytes → (t.buffer.bytes ≡ [] → ⊥)
+    → Leaves (Puts name t.end bytes) (Put name t.end bytes) a b → IfSome b (IsAt m) → m ≡ later → later ≡ counted (counted moment) → lists' ≡ option_map (with_receipt t.appended m) lists → IsValid stage a moment lists room config table pool t → IsValid stage b later lists' room' config table pool (put_out t)
+unfolding sound_put parts_put
+valid_put stage a b moment later m lists lists' room room' config table pool t name bytes named same waits leaves at now twice noted v = record {
   sound = sound_put a b lists room config table pool t v.ranges v.sound waits lists' room' m (let P : FileName → List ℕ → Type 0 = λ n x. Leaves (Puts n t.end x) (Put n t.end x) a b in subst (P t.file.name) same (subst (λ n. P n bytes) named leaves)) at noted;
   ranges = v.ranges;
+  opening = v.opening;
   order = receipted_order moment later m t.appended t.durable lists lists' (all_most t v.sound.parts) now twice noted v.last v.order;
   last = receipted_last m t.appended lists lists' noted;
 } where
@@ -35,11 +37,13 @@ valid_put a b moment later m lists lists' room room' config table pool t name by
   all_most t p = omega (arith, p.durable, p.count, p.some)
 
 -- a call failed, or wanted memory
-pub valid_failed : (a b : Option Past) (moment later : ℕ) (lists : Option Lists) (room : ℕ) (config : Config) (table : TxState) (pool : PoolOf) (t : Tail) (name : FileName) (bytes : List ℕ) → name ≡ t.file.name → bytes ≡ t.buffer.bytes → (t.buffer.bytes ≡ [] → ⊥)
-    → Leaves (Puts name t.end bytes) (Puts name t.end bytes) a b → moment ≤ later → IsValid a moment lists room config table pool t → IsValid b later lists room config table pool t
-valid_failed a b moment later lists room config table pool t name bytes named same waits leaves on v = record {
+pub valid_failed : (stage : Stage) (a b : Option Past) (moment later : ℕ) (lists : Option Lists) (room : ℕ) (config : Config) (table : TxState) (pool : PoolOf) (t : Tail) (name : FileName) (bytes : List ℕ) → name ≡ t.file.name → bytes ≡ t.buffer.bytes → (t.buffer.bytes ≡ [] → ⊥)
+    → Leaves (Puts name t.end bytes) (Puts name t.end bytes) a b → moment ≤ later → IsValid stage a moment lists room config table pool t → IsValid stage b later lists room config table pool t
+unfolding sound_failed
+valid_failed stage a b moment later lists room config table pool t name bytes named same waits leaves on v = record {
   sound = sound_failed a b lists room config table pool t v.ranges v.sound waits (let P : FileName → List ℕ → Type 0 = λ n x. Leaves (Puts n t.end x) (Puts n t.end x) a b in subst (P t.file.name) same (subst (λ n. P n bytes) named leaves));
   ranges = v.ranges;
+  opening = v.opening;
   order = told_later moment later lists on v.order;
   last = v.last;
 }

@@ -17,10 +17,10 @@ use Rattle.amq_pool.specs.Pools.{PoolOf, IsPool, ids_of, with_next, with_first, 
 use Rattle.amq_engine.specs.Lists.{Lists}
 use Rattle.amq_engine.specs.Directory.{StandsNow, placed_in, segment, all_files, files_from, AreListed}
 use Rattle.amq_engine.specs.declared.tail.Tail.{Tail}
-use Rattle.amq_engine.specs.Engine.{Holds, IsTold, Parts, IsSound, IsValid, records, gone_on, with_files}
+use Rattle.amq_engine.specs.Engine.{Holds, IsTold, Parts, IsSound, Stage, IsValid, records, gone_on, with_files}
 use Rattle.amq_engine.proofs.History.{few_records, length-placed}
 use Rattle.amq_engine.proofs.Texts.{end_whole}
-use Rattle.amq_engine.proofs.Listing.{listed_next, files_next, all_files_more, all_files_on, next_id}
+use Rattle.amq_engine.proofs.Listing.{listed_next, all_files_more, all_files_on, next_id}
 use Rattle.amq_engine.proofs.Standing.{making_stands, made_stands, stands_on}
 use Rattle.amq_engine.proofs.Holding.{stands_now_holds}
 use Rattle.amq_engine.proofs.Receipts.{if_some, kept_through}
@@ -31,21 +31,23 @@ use Rattle.amq_engine.proofs.Sound.{none_wait}
 
 parts_prepared : (config : Config) (table : TxState) (pool : PoolOf) (t : Tail) → pool.highest < 2 ^ 31 - 1 → IsPool (with_next pool) → Parts config table pool t → Parts config table (with_next pool) t
 parts_prepared config table pool t low is p =
-    let more : all_files p.closed t.file (pool.prepared ++ numbered_file (pool.highest + 1) ∷ []) ≡ all_files p.closed t.file pool.prepared ++ numbered_file (pool.highest + 1) ∷ [] =
-    all_files_more p.closed t.file pool.prepared (numbered_file (pool.highest + 1)) in
+    let more : all_files (p.old ++ p.closed) t.file (pool.prepared ++ numbered_file (pool.highest + 1) ∷ []) ≡ all_files (p.old ++ p.closed) t.file pool.prepared ++ numbered_file (pool.highest + 1) ∷ [] =
+    all_files_more (p.old ++ p.closed) t.file pool.prepared (numbered_file (pool.highest + 1)) in
     record {
+      base = p.base;
+      old = p.old;
       closed = p.closed;
       items = p.items;
       sure = p.sure;
       steps = p.steps;
+      based = p.based;
       new = p.new;
       placed = p.placed;
-      legal = p.legal;
+      each = p.each;
       follows = p.follows;
       same_config = p.same_config;
       pool_is = is;
-      listed = subst (AreListed (pool.highest + 1) 1) (sym more) (listed_next pool.highest 1 (all_files p.closed t.file pool.prepared) p.listed (omega arith) low);
-      numbered = more ∙ files_next pool.highest (all_files p.closed t.file pool.prepared) p.numbered;
+      listed = subst (AreListed (pool.highest + 1) 0) (sym more) (listed_next pool.highest 0 (all_files (p.old ++ p.closed) t.file pool.prepared) p.listed (omega arith) low);
       numbers = omega (arith, low);
       few = p.few;
       capacity = p.capacity;
@@ -61,10 +63,10 @@ parts_prepared config table pool t low is p =
 
 module _ (a b : Option Past) (lists : Option Lists) (room : ℕ) (config : Config) (table : TxState) (pool : PoolOf) (t : Tail) (ranges : IsConfig config) (low : pool.highest < 2 ^ 31 - 1) (s : IsSound a lists room config table pool t) where
   abbrev Now : Files → Type 0
-  Now = StandsNow config s.parts.closed t.file s.parts.sure s.parts.items pool.highest pool.prepared
+  Now = StandsNow config (s.parts.old ++ s.parts.closed) t.file s.parts.sure s.parts.items pool.highest pool.prepared
 
   abbrev Then : Files → Type 0
-  Then = StandsNow config s.parts.closed t.file s.parts.sure s.parts.items (pool.highest + 1) (pool.prepared ++ numbered_file (pool.highest + 1) ∷ [])
+  Then = StandsNow config (s.parts.old ++ s.parts.closed) t.file s.parts.sure s.parts.items (pool.highest + 1) (pool.prepared ++ numbered_file (pool.highest + 1) ∷ [])
 
   abbrev I : Files → Files → Type 0
   I = Making config (pool.highest + 1)
@@ -73,19 +75,19 @@ module _ (a b : Option Past) (lists : Option Lists) (room : ℕ) (config : Confi
   history = records s.parts.closed t.file s.parts.items
 
   inside : (o f : Files) → Now o → I o f → Now f
-  inside o f was making = making_stands config s.parts.closed t.file s.parts.sure s.parts.items pool.highest pool.prepared low s.parts.listed o f was making
+  inside o f was making = making_stands config (s.parts.old ++ s.parts.closed) t.file s.parts.sure s.parts.items pool.highest pool.prepared low s.parts.listed o f was making
 
   at_end : (o f : Files) → Now o → Made config (pool.highest + 1) o f → Then f
-  at_end o f was made = inl (made_stands config s.parts.closed t.file s.parts.sure s.parts.items pool.highest pool.prepared low s.parts.listed o f was made)
+  at_end o f was made = inl (made_stands config (s.parts.old ++ s.parts.closed) t.file s.parts.sure s.parts.items pool.highest pool.prepared low s.parts.listed o f was made)
 
-  held : (d : ℕ) → d ≤ t.durable → (o f : Files) → Now o → I o f → Holds config.user_version [] d history f
-  held d le o f was making = stands_now_holds config s.parts.closed t.file s.parts.sure s.parts.items pool.highest pool.prepared f d ranges s.parts.new s.parts.some s.parts.numbers s.parts.listed (omega (arith, le, s.parts.durable)) (inside o f was making)
+  held : (d : ℕ) → d ≤ t.durable → (o f : Files) → Now o → I o f → Holds config.user_version s.parts.base d history f
+  held d le o f was making = stands_now_holds config s.parts.old s.parts.closed t.file s.parts.sure s.parts.items pool.highest pool.prepared s.parts.base f d ranges s.parts.new s.parts.some s.parts.numbers s.parts.listed s.parts.based (omega (arith, le, s.parts.durable)) (inside o f was making)
 
-  still_told : (E : Files → Files → Type 0) → Leaves I E a b → (l : Lists) → IsTold a config.user_version t.durable history s.parts.steps l → IsTold b config.user_version t.durable history s.parts.steps l
+  still_told : (E : Files → Files → Type 0) → Leaves I E a b → (l : Lists) → IsTold a config.user_version s.parts.base t.durable history s.parts.steps l → IsTold b config.user_version s.parts.base t.durable history s.parts.steps l
   still_told E leaves l told = record {
     base = told.base;
     same = told.same;
-    kept = kept_through I E Now config.user_version t.durable history l.receipts a b told.kept s.reads_now held leaves;
+    kept = kept_through I E Now config.user_version s.parts.base t.durable history l.receipts a b told.kept s.reads_now held leaves;
   }
 
   -- however the preparation ended
@@ -94,7 +96,7 @@ module _ (a b : Option Past) (lists : Option Lists) (room : ℕ) (config : Confi
     parts = s.parts;
     reads_now = reads_on I I Now Now a b s.reads_now inside leaves;
     room = s.room;
-    told = if_some (IsTold a config.user_version t.durable history s.parts.steps) (IsTold b config.user_version t.durable history s.parts.steps) lists (still_told I leaves) s.told;
+    told = if_some (IsTold a config.user_version s.parts.base t.durable history s.parts.steps) (IsTold b config.user_version s.parts.base t.durable history s.parts.steps) lists (still_told I leaves) s.told;
   }
 
   -- the file is prepared
@@ -104,23 +106,27 @@ module _ (a b : Option Past) (lists : Option Lists) (room : ℕ) (config : Confi
     parts = parts_prepared config table pool t low is s.parts;
     reads_now = reads_on I (Made config (pool.highest + 1)) Now Then a b s.reads_now at_end leaves;
     room = s.room;
-    told = if_some (IsTold a config.user_version t.durable history s.parts.steps) (IsTold b config.user_version t.durable history s.parts.steps) lists (still_told (Made config (pool.highest + 1)) leaves) s.told;
+    told = if_some (IsTold a config.user_version s.parts.base t.durable history s.parts.steps) (IsTold b config.user_version s.parts.base t.durable history s.parts.steps) lists (still_told (Made config (pool.highest + 1)) leaves) s.told;
   }
 
-pub valid_unprepared : (a b : Option Past) (moment later : ℕ) (lists : Option Lists) (room : ℕ) (config : Config) (table : TxState) (pool : PoolOf) (t : Tail) → pool.highest < 2 ^ 31 - 1 → moment ≤ later
-    → Leaves (Making pool.config (pool.highest + 1)) (Making pool.config (pool.highest + 1)) a b → IsValid a moment lists room config table pool t → IsValid b later lists room config table pool t
-valid_unprepared a b moment later lists room config table pool t low on leaves v = record {
+pub valid_unprepared : (stage : Stage) (a b : Option Past) (moment later : ℕ) (lists : Option Lists) (room : ℕ) (config : Config) (table : TxState) (pool : PoolOf) (t : Tail) → pool.highest < 2 ^ 31 - 1 → moment ≤ later
+    → Leaves (Making pool.config (pool.highest + 1)) (Making pool.config (pool.highest + 1)) a b → IsValid stage a moment lists room config table pool t → IsValid stage b later lists room config table pool t
+unfolding sound_unprepared
+valid_unprepared stage a b moment later lists room config table pool t low on leaves v = record {
   sound = sound_unprepared a b lists room config table pool t v.ranges low v.sound (let P : Config → Type 0 = λ c. Leaves (Making c (pool.highest + 1)) (Making c (pool.highest + 1)) a b in subst P v.sound.parts.same_config leaves);
   ranges = v.ranges;
+  opening = v.opening;
   order = told_later moment later lists on v.order;
   last = v.last;
 }
 
-pub valid_prepared : (a b : Option Past) (moment later : ℕ) (lists : Option Lists) (room : ℕ) (config : Config) (table : TxState) (pool : PoolOf) (t : Tail) → pool.highest < 2 ^ 31 - 1 → moment ≤ later → IsPool (with_next pool)
-    → Leaves (Making pool.config (pool.highest + 1)) (Made pool.config (pool.highest + 1)) a b → IsValid a moment lists room config table pool t → IsValid b later lists room config table (with_next pool) t
-valid_prepared a b moment later lists room config table pool t low on is leaves v = record {
+pub valid_prepared : (stage : Stage) (a b : Option Past) (moment later : ℕ) (lists : Option Lists) (room : ℕ) (config : Config) (table : TxState) (pool : PoolOf) (t : Tail) → pool.highest < 2 ^ 31 - 1 → moment ≤ later → IsPool (with_next pool)
+    → Leaves (Making pool.config (pool.highest + 1)) (Made pool.config (pool.highest + 1)) a b → IsValid stage a moment lists room config table pool t → IsValid stage b later lists room config table (with_next pool) t
+unfolding sound_prepared parts_prepared
+valid_prepared stage a b moment later lists room config table pool t low on is leaves v = record {
   sound = sound_prepared a b lists room config table pool t v.ranges low v.sound is (let P : Config → Type 0 = λ c. Leaves (Making c (pool.highest + 1)) (Made c (pool.highest + 1)) a b in subst P v.sound.parts.same_config leaves);
   ranges = v.ranges;
+  opening = v.opening;
   order = told_later moment later lists on v.order;
   last = v.last;
 }
@@ -138,27 +144,29 @@ records_on closed used items f = append-nil (records_of (closed ++ segment used 
 module _ (config : Config) (table : TxState) (pool pool' : PoolOf) (t : Tail) (f : PoolFile) (ranges : IsConfig config) (is : pool ≡ with_first f pool') (here : IsPool pool') (none : t.buffer.bytes ≡ []) where
   parts_on : Parts config table pool t → Parts config table pool' (gone_on f t)
   parts_on p =
-      let listed : AreListed pool'.highest 1 (all_files p.closed t.file (f ∷ pool'.prepared)) = subst (λ (q : PoolOf). AreListed q.highest 1 (all_files p.closed t.file q.prepared)) is p.listed in
-      let numbered : all_files p.closed t.file (f ∷ pool'.prepared) ≡ files_from 1 pool'.highest = subst (λ (q : PoolOf). all_files p.closed t.file q.prepared ≡ files_from 1 q.highest) is p.numbered in
-      let on : all_files p.closed t.file (f ∷ pool'.prepared) ≡ all_files (p.closed ++ segment t.file p.items ∷ []) f pool'.prepared = all_files_on p.closed t.file p.items f pool'.prepared in
+      let listed : AreListed pool'.highest 0 (all_files (p.old ++ p.closed) t.file (f ∷ pool'.prepared)) = subst (λ (q : PoolOf). AreListed q.highest 0 (all_files (p.old ++ p.closed) t.file q.prepared)) is p.listed in
+      let on : all_files (p.old ++ p.closed) t.file (f ∷ pool'.prepared) ≡ all_files (p.old ++ (p.closed ++ segment t.file p.items ∷ [])) f pool'.prepared =
+      all_files_on (p.old ++ p.closed) t.file p.items f pool'.prepared ∙ ap (λ (gs : List Segment). all_files gs f pool'.prepared) (append_assoc p.old p.closed (segment t.file p.items ∷ [])) in
       let many : length (records_of (p.closed ++ segment t.file p.items ∷ [])) ≡ length (records_of p.closed) + length p.items =
       ap length (records_closed p.closed t.file p.items) ∙ length-append (records_of p.closed) (placed_in t.file.id p.items) ∙ ap (λ (n : ℕ). length (records_of p.closed) + n) (length-placed t.file.id p.items) in
       let sure : p.sure ≡ length p.items = none_wait config table pool t p none in
       record {
+        base = p.base;
+        old = p.old;
         closed = p.closed ++ segment t.file p.items ∷ [];
         items = [];
         sure = 0;
         steps = p.steps;
+        based = p.based;
         new = λ k x lt. absurd (omega (arith, lt));
         placed = p.placed ∙ sym (records_on p.closed t.file p.items f);
-        legal = p.legal;
+        each = p.each;
         follows = p.follows;
         same_config = sym (ap (λ (q : PoolOf). q.config) is) ∙ p.same_config;
         pool_is = here;
-        listed = subst (AreListed pool'.highest 1) on listed;
-        numbered = sym on ∙ numbered;
+        listed = subst (AreListed pool'.highest 0) on listed;
         numbers = omega (arith, p.numbers, ap (λ (q : PoolOf). q.highest) is);
-        few = omega (arith, many, p.few, next_id pool'.highest p.closed t.file f pool'.prepared listed, few_records p.items, end_whole t.file.id p.sure t.end p.items t.buffer.bytes p.place p.buffered, p.fits, ranges.file_size_most);
+        few = omega (arith, many, p.few, next_id pool'.highest (p.old ++ p.closed) t.file f pool'.prepared listed, few_records p.items, end_whole t.file.id p.sure t.end p.items t.buffer.bytes p.place p.buffered, p.fits, ranges.file_size_most);
         capacity = p.capacity;
         timeout = p.timeout;
         first = p.first;
@@ -174,21 +182,24 @@ module _ (config : Config) (table : TxState) (pool pool' : PoolOf) (t : Tail) (f
   unfolding parts_on
   sound_on past lists room s =
       let p = s.parts in
-      let reads : AllReads past (StandsNow config p.closed t.file p.sure p.items pool'.highest (f ∷ pool'.prepared)) = subst (λ (q : PoolOf). AllReads past (StandsNow config p.closed t.file p.sure p.items q.highest q.prepared)) is s.reads_now in
-      let listed : AreListed pool'.highest 1 (all_files p.closed t.file (f ∷ pool'.prepared)) = subst (λ (q : PoolOf). AreListed q.highest 1 (all_files p.closed t.file q.prepared)) is p.listed in
+      let reads : AllReads past (StandsNow config (p.old ++ p.closed) t.file p.sure p.items pool'.highest (f ∷ pool'.prepared)) = subst (λ (q : PoolOf). AllReads past (StandsNow config (p.old ++ p.closed) t.file p.sure p.items q.highest q.prepared)) is s.reads_now in
+      let listed : AreListed pool'.highest 0 (all_files (p.old ++ p.closed) t.file (f ∷ pool'.prepared)) = subst (λ (q : PoolOf). AreListed q.highest 0 (all_files (p.old ++ p.closed) t.file q.prepared)) is p.listed in
       let numbers : pool'.highest ≤ 2 ^ 31 - 1 = omega (arith, p.numbers, ap (λ (q : PoolOf). q.highest) is) in
       record {
         parts = parts_on p;
-        reads_now = reads_weaker (StandsNow config p.closed t.file p.sure p.items pool'.highest (f ∷ pool'.prepared)) (StandsNow config (p.closed ++ segment t.file p.items ∷ []) f 0 [] pool'.highest pool'.prepared) past
-            (λ o was. stands_on config p.closed t.file p.sure p.items pool'.highest f pool'.prepared ranges p.new numbers listed (none_wait config table pool t p none) o was) reads;
+        reads_now = reads_weaker (StandsNow config (p.old ++ p.closed) t.file p.sure p.items pool'.highest (f ∷ pool'.prepared)) (StandsNow config (p.old ++ (p.closed ++ segment t.file p.items ∷ [])) f 0 [] pool'.highest pool'.prepared) past
+            (λ o was. subst (λ (gs : List Segment). StandsNow config gs f 0 [] pool'.highest pool'.prepared o) (append_assoc p.old p.closed (segment t.file p.items ∷ []))
+            (stands_on config (p.old ++ p.closed) t.file p.sure p.items pool'.highest f pool'.prepared ranges p.new numbers listed (none_wait config table pool t p none) o was)) reads;
         room = λ some. absurd (some none);
-        told = subst (λ (h : List Placed). IfSome lists (IsTold past config.user_version t.durable h p.steps)) (sym (records_on p.closed t.file p.items f)) s.told;
+        told = subst (λ (h : List Placed). IfSome lists (IsTold past config.user_version p.base t.durable h p.steps)) (sym (records_on p.closed t.file p.items f)) s.told;
       }
 
-  pub valid_on : (past : Option Past) (moment : ℕ) (lists : Option Lists) (room : ℕ) → IsValid past moment lists room config table pool t → IsValid past moment lists room config table pool' (gone_on f t)
-  valid_on past moment lists room v = record {
+  pub valid_on : (stage : Stage) (past : Option Past) (moment : ℕ) (lists : Option Lists) (room : ℕ) → IsValid stage past moment lists room config table pool t → IsValid stage past moment lists room config table pool' (gone_on f t)
+  unfolding sound_on parts_on
+  valid_on stage past moment lists room v = record {
     sound = sound_on past lists room v.sound;
     ranges = v.ranges;
+    opening = v.opening;
     order = v.order;
     last = v.last;
   }

@@ -18,13 +18,13 @@ use Rattle.amq_model.specs.Kept.{IsPart, IsKept}
 use Rattle.amq_model.specs.Legal.{AreLegalFrom}
 use Rattle.amq_model.specs.Names.{is_data, control_name}
 use Rattle.amq_scan.specs.Written.{Item, IsItem, spots_from, end_from}
-use Rattle.amq_scan.specs.Segments.{Segment, records_in, records_of, AreAscending, IsNamed, end_of_spots, AreThere, IsDirectory}
+use Rattle.amq_scan.specs.Segments.{Segment, records_in, records_of, AreAscending, IsNamed, end_of_spots, AreThere, IsDirectory, AreClosed}
 use Rattle.amq_scan.proofs.Lengths.{spots_take}
 use Rattle.amq_scan.proofs.Directories.{directory_left}
 use Rattle.amq_tx.proofs.WholeKept.{left_is_kept}
 use Rattle.amq_pool.specs.declared.pool.PoolFile.{PoolFile}
 use Rattle.amq_pool.specs.Pools.{file_for, numbered_file}
-use Rattle.amq_engine.specs.Directory.{placed_in, segment, bare, named_file, all_files, HasName, AreListed, AreClosed, ArePrepared, IsInUse, Stands, StandsNow}
+use Rattle.amq_engine.specs.Directory.{placed_in, segment, bare, named_file, all_files, HasName, AreListed, ArePrepared, IsInUse, Stands, StandsNow}
 use Rattle.amq_engine.specs.Engine.{IsNewItem, Holds, records}
 use Rattle.amq_engine.proofs.History.{length-placed}
 use Rattle.amq_engine.proofs.Segments.{number_names, in_use_segment, prepared_segment}
@@ -80,7 +80,7 @@ holds_loads config wanted least base history steps s reading image legal told h 
 -- ---- names and ids
 
 -- the files behind the closed ones are listed from some id on
-listed_behind : (highest least : ℕ) (closed : List Segment) (fs : List PoolFile) → AreListed highest least (map named_file closed ++ fs) → (k : ℕ) × AreListed highest k fs
+pub listed_behind : (highest least : ℕ) (closed : List Segment) (fs : List PoolFile) → AreListed highest least (map named_file closed ++ fs) → (k : ℕ) × AreListed highest k fs
 listed_behind highest least [] fs a = (least, a)
 listed_behind highest least (g ∷ gs) fs a = listed_behind highest (g.id + 1) gs fs a.4
 
@@ -88,26 +88,21 @@ bare_ascend : (highest least : ℕ) (free : List PoolFile) → AreListed highest
 bare_ascend highest least [] a = tt
 bare_ascend highest least (f ∷ fs) a = (a.0, bare_ascend highest (f.id + 1) fs a.4)
 
-all_ascend : (highest least : ℕ) (closed : List Segment) (used : PoolFile) (items : List Item) (free : List PoolFile) → AreListed highest least (all_files closed used free) → AreAscending least (closed ++ segment used items ∷ bare free)
+pub all_ascend : (highest least : ℕ) (closed : List Segment) (used : PoolFile) (items : List Item) (free : List PoolFile) → AreListed highest least (all_files closed used free) → AreAscending least (closed ++ segment used items ∷ bare free)
 all_ascend highest least [] used items free a = (a.0, bare_ascend highest (used.id + 1) free a.4)
 all_ascend highest least (g ∷ gs) used items free a = (a.0, all_ascend highest (g.id + 1) gs used items free a.4)
 
 -- with the next file the files are listed up to its number
-pub listed_more : (highest : ℕ) (closed : List Segment) (used : PoolFile) (free : List PoolFile) → highest < 2 ^ 31 - 1 → AreListed highest 1 (all_files closed used free) → AreListed (highest + 1) 1 (all_files closed used (free ++ numbered_file (highest + 1) ∷ []))
+pub listed_more : (highest : ℕ) (closed : List Segment) (used : PoolFile) (free : List PoolFile) → highest < 2 ^ 31 - 1 → AreListed highest 0 (all_files closed used free) → AreListed (highest + 1) 0 (all_files closed used (free ++ numbered_file (highest + 1) ∷ []))
 listed_more highest closed used free low listed =
-    subst (AreListed (highest + 1) 1) (sym (all_files_more closed used free (numbered_file (highest + 1)))) (listed_next highest 1 (all_files closed used free) listed (omega arith) low)
-
--- each id is at least 0
-from_none : (least : ℕ) (gs : List Segment) → AreAscending least gs → AreAscending 0 gs
-from_none least [] a = tt
-from_none least (g ∷ gs) a = (omega arith, a.1)
+    subst (AreListed (highest + 1) 0) (sym (all_files_more closed used free (numbered_file (highest + 1)))) (listed_next highest 0 (all_files closed used free) listed (omega arith) low)
 
 bare_named : (n : FileName) (free : List PoolFile) → HasName n free → IsNamed n (bare free)
 bare_named n [] h = h
 bare_named n (f ∷ fs) (inl e) = inl e
 bare_named n (f ∷ fs) (inr h) = inr (bare_named n fs h)
 
-all_named : (n : FileName) (closed : List Segment) (used : PoolFile) (items : List Item) (free : List PoolFile) → HasName n (all_files closed used free) → IsNamed n (closed ++ segment used items ∷ bare free)
+pub all_named : (n : FileName) (closed : List Segment) (used : PoolFile) (items : List Item) (free : List PoolFile) → HasName n (all_files closed used free) → IsNamed n (closed ++ segment used items ∷ bare free)
 all_named n [] used items free (inl e) = inl e
 all_named n [] used items free (inr h) = inr (bare_named n free h)
 all_named n (g ∷ gs) used items free (inl e) = inl e
@@ -146,6 +141,11 @@ records_of_all closed used items free =
     let here : List Placed = placed_in used.id items in
     records_of_both closed (segment used items ∷ bare free) ∙ ap (λ (l : List Placed). records_of closed ++ l) (ap (λ (l : List Placed). here ++ l) (bare_records free) ∙ append-nil here)
 
+-- the records of the old files are the base, and the others stand behind it
+pub records_since : (old closed : List Segment) (used : PoolFile) (items : List Item) (base : List Placed) → records_of old ≡ base → records (old ++ closed) used items ≡ base ++ records closed used items
+records_since old closed used items base based =
+    ap (λ (l : List Placed). l ++ placed_in used.id items) (records_of_both old closed ∙ ap (λ (l : List Placed). l ++ records_of closed) based) ∙ append_assoc base (records_of closed) (placed_in used.id items)
+
 -- ---- files
 
 -- closed files are durable, whatever stands behind them
@@ -169,15 +169,15 @@ free_there config highest least sure s (f ∷ fs) ranges low listed are = (
   free_there config highest (f.id + 1) (sure - 0) s fs ranges low listed.4 are.1,
 )
 
-items_of : (items : List Item) → All IsNewItem items → All (IsItem 2) items
+pub items_of : (items : List Item) → All IsNewItem items → All (IsItem 2) items
 items_of items all = λ k d lt. (all k d lt).item
 
 module _ (config : Config) (closed : List Segment) (used : PoolFile) (sure : ℕ) (items : List Item) (highest : ℕ) (free : List PoolFile) (s : Files)
-    (ranges : IsConfig config) (new : All IsNewItem items) (low : highest ≤ 2 ^ 31 - 1) (listed : AreListed highest 1 (all_files closed used free)) where
+    (ranges : IsConfig config) (new : All IsNewItem items) (low : highest ≤ 2 ^ 31 - 1) (listed : AreListed highest 0 (all_files closed used free)) where
   used_there : (h : IsInUse config used sure items s) → ArePrepared config s free → AreThere config.user_version sure s (segment used (take h.put items) ∷ bare free)
   used_there h are =
       let front : List Item = take h.put items in
-      let behind = listed_behind highest 1 closed (used ∷ free) listed in
+      let behind = listed_behind highest 0 closed (used ∷ free) listed in
       let l = behind.1 in
       let spots : take sure (spots_from 2 16 front) ≡ spots_from 2 16 (take sure items) = spots_take 2 16 sure front ∙ ap (spots_from 2 16) (take-take sure h.put items h.ahead) in
       let ends : end_of_spots 16 (take sure (spots_from 2 16 front)) ≡ end_from 2 16 (take sure items) = ap (end_of_spots 16) spots ∙ spots_end 16 (take sure items) in (
@@ -196,26 +196,27 @@ module _ (config : Config) (closed : List Segment) (used : PoolFile) (sure : ℕ
       let front : List Item = take st.used_there.put items in
       let files : List Segment = closed ++ segment used front ∷ bare free in
       record {
-        ascending = from_none 1 files (all_ascend highest 1 closed used front free listed);
+        ascending = all_ascend highest 0 closed used front free listed;
         there = closed_there config.user_version sure s closed (segment used front ∷ bare free) st.closed_there (used_there st.used_there st.free_there);
-        only = λ n file named long there. all_named n closed used front free (st.only n file named there);
+        only = λ n file named long there. all_named n closed used front free (st.only n file named long there);
         uncontrolled = st.uncontrolled;
       }
 
--- It holds the records of the closed files and those of the file in use that are durable.
-pub stands_holds : (config : Config) (closed : List Segment) (used : PoolFile) (sure : ℕ) (items : List Item) (highest : ℕ) (free : List PoolFile) (s : Files) (d : ℕ) → IsConfig config → All IsNewItem items → sure ≤ length items → highest ≤ 2 ^ 31 - 1
-    → AreListed highest 1 (all_files closed used free) → d ≤ length (records_of closed) + sure → Stands config closed used sure items free s → Holds config.user_version [] d (records closed used items) s
-stands_holds config closed used sure items highest free s d ranges new some low listed le st =
+-- It holds the records of the old files, of those closed since, and those of the file in use that are durable.
+pub stands_holds : (config : Config) (old closed : List Segment) (used : PoolFile) (sure : ℕ) (items : List Item) (highest : ℕ) (free : List PoolFile) (base : List Placed) (s : Files) (d : ℕ) → IsConfig config → All IsNewItem items → sure ≤ length items → highest ≤ 2 ^ 31 - 1
+    → AreListed highest 0 (all_files (old ++ closed) used free) → records_of old ≡ base → d ≤ length (records_of closed) + sure → Stands config (old ++ closed) used sure items free s → Holds config.user_version base d (records closed used items) s
+stands_holds config old closed used sure items highest free base s d ranges new some low listed based le st =
     let h = st.used_there in
     let front : List Item = take h.put items in
     let n : ℕ = length (records_of closed) in
     let taken : take (n + h.put) (records closed used items) ≡ records closed used front =
     take_behind h.put (records_of closed) (placed_in used.id items) ∙ ap (λ (l : List Placed). records_of closed ++ l) (placed_in-take used.id h.put items) in
     let behind : drop (n + sure) (take (n + h.put) (records closed used items)) ≡ drop sure (placed_in used.id front) = ap (drop (n + sure)) taken ∙ drop_behind sure (records_of closed) (placed_in used.id front) in
-    let same : n + sure ≡ 0 + (n + sure) = omega arith in
+    let both : records_of (old ++ closed) ≡ base ++ records_of closed = records_of_both old closed ∙ ap (λ (l : List Placed). l ++ records_of closed) based in
+    let same : length (records_of (old ++ closed)) + sure ≡ length base + (n + sure) = omega (arith, ap length both, length-append base (records_of closed)) in
     let ahead : sure ≤ h.put = h.ahead in
     let most : h.put ≤ length items = h.most in
-    let files : List Segment = closed ++ segment used front ∷ bare free in
+    let files : List Segment = (old ++ closed) ++ segment used front ∷ bare free in
     record {
       files = files;
       sure = n + sure;
@@ -223,18 +224,18 @@ stands_holds config closed used sure items highest free s d ranges new some low 
       enough = le;
       ahead = omega (arith, ahead);
       within = omega (arith, most, length-records closed used items);
-      is = subst (λ (k : ℕ). IsDirectory config.user_version k files s) same (stands_directory config closed used sure items highest free s ranges new low listed st);
-      records = records_of_all closed used front free ∙ sym taken;
+      is = subst (λ (k : ℕ). IsDirectory config.user_version k files s) same (stands_directory config (old ++ closed) used sure items highest free s ranges new low listed st);
+      records = records_of_all (old ++ closed) used front free ∙ records_since old closed used front base based ∙ ap (λ (l : List Placed). base ++ l) (sym taken);
       last = used.id;
       one = subst (All (λ p. p.file ≡ used.id)) (sym behind) (All-drop (λ p. p.file ≡ used.id) sure (placed_in used.id front) (placed_in-file used.id front));
     }
 
 -- the same where one more file may be prepared
-pub stands_now_holds : (config : Config) (closed : List Segment) (used : PoolFile) (sure : ℕ) (items : List Item) (highest : ℕ) (free : List PoolFile) (s : Files) (d : ℕ) → IsConfig config → All IsNewItem items → sure ≤ length items → highest ≤ 2 ^ 31 - 1
-    → AreListed highest 1 (all_files closed used free) → d ≤ length (records_of closed) + sure → StandsNow config closed used sure items highest free s → Holds config.user_version [] d (records closed used items) s
-stands_now_holds config closed used sure items highest free s d ranges new some low listed le (inl st) = stands_holds config closed used sure items highest free s d ranges new some low listed le st
-stands_now_holds config closed used sure items highest free s d ranges new some low listed le (inr st) =
-    stands_holds config closed used sure items (highest + 1) (free ++ numbered_file (highest + 1) ∷ []) s d ranges new some (omega (arith, st.0)) (listed_more highest closed used free st.0 listed) le st.1
+pub stands_now_holds : (config : Config) (old closed : List Segment) (used : PoolFile) (sure : ℕ) (items : List Item) (highest : ℕ) (free : List PoolFile) (base : List Placed) (s : Files) (d : ℕ) → IsConfig config → All IsNewItem items → sure ≤ length items → highest ≤ 2 ^ 31 - 1
+    → AreListed highest 0 (all_files (old ++ closed) used free) → records_of old ≡ base → d ≤ length (records_of closed) + sure → StandsNow config (old ++ closed) used sure items highest free s → Holds config.user_version base d (records closed used items) s
+stands_now_holds config old closed used sure items highest free base s d ranges new some low listed based le (inl st) = stands_holds config old closed used sure items highest free base s d ranges new some low listed based le st
+stands_now_holds config old closed used sure items highest free base s d ranges new some low listed based le (inr st) =
+    stands_holds config old closed used sure items (highest + 1) (free ++ numbered_file (highest + 1) ∷ []) base s d ranges new some (omega (arith, st.0)) (listed_more highest (old ++ closed) used free st.0 listed) based le st.1
 
 -- before the first file, a directory holds none of any history
 pub empty_holds : (wanted : ℕ) (history : List Placed) (s : Files) → ((n : FileName) (file : File) → IsTrue (is_data n) → finite.get s n ≡ Some file → ⊥) → finite.get s control_name ≡ None → Holds wanted [] 0 history s

@@ -1,5 +1,5 @@
 -- The list of the files of a journal: it grows at its end, and its names and ids are apart.
-use Rattle.std.proofs.Common.{◌≡◌, ◌⊎◌, inl, inr, ℕ, zero, suc, ◌+◌, ◌-◌, ◌^◌, ◌<◌, ◌≤◌, List, [], ◌∷◌, ◌++◌, map, Some, refl, sym, ap, subst, ◌∙◌, append_assoc, arith}
+use Rattle.std.proofs.Common.{◌≡◌, ◌⊎◌, inl, inr, ℕ, ◌+◌, ◌-◌, ◌^◌, ◌<◌, ◌≤◌, List, [], ◌∷◌, ◌++◌, map, Some, refl, sym, ap, subst, ◌∙◌, append_assoc, arith}
 use Rattle.std.specs.Prelude.{All, IsTrue}
 use Rattle.std.proofs.lemmas.List.{map-append}
 use Rattle.std.proofs.lemmas.List.Elements.{All-nil, All-cons, All-append}
@@ -14,7 +14,7 @@ use Rattle.amq_scan.specs.Written.{Item}
 use Rattle.amq_scan.specs.Segments.{Segment, records_in, records_of, IsNamed}
 use Rattle.amq_pool.specs.declared.pool.PoolFile.{PoolFile}
 use Rattle.amq_pool.specs.Pools.{numbered_file}
-use Rattle.amq_engine.specs.Directory.{segment, named_file, all_files, HasName, AreListed, files_from}
+use Rattle.amq_engine.specs.Directory.{segment, named_file, all_files, HasName, AreListed}
 use Rattle.amq_engine.proofs.Segments.{number_names}
 
 -- ---- names in a list
@@ -86,27 +86,12 @@ listed_next highest least (f ∷ fs) a le low = (
         let same : a.2.0 ≡ highest + 1 = same_Some a.2.0 (highest + 1) (sym a.2.1 ∙ ap data_number (sym e) ∙ data_is_read (highest + 1) (omega (arith, low))) in
         omega (arith, same, a.2.2)
 
-from_more : (first n : ℕ) → files_from first n ++ numbered_file (first + n) ∷ [] ≡ files_from first (suc n)
-from_more first zero = ap (λ (k : ℕ). numbered_file k ∷ []) (omega arith)
-from_more first (suc n) =
-    let e : first + suc n ≡ (first + 1) + n = omega arith in
-    ap (λ (l : List PoolFile). numbered_file first ∷ l) (ap (λ (k : ℕ). files_from (first + 1) n ++ numbered_file k ∷ []) e ∙ from_more (first + 1) n)
-
-pub files_next : (highest : ℕ) (fs : List PoolFile) → fs ≡ files_from 1 highest → fs ++ numbered_file (highest + 1) ∷ [] ≡ files_from 1 (highest + 1)
-files_next highest fs is =
-    let one : highest + 1 ≡ 1 + highest = omega arith in
-    let more : suc highest ≡ highest + 1 = omega arith in
-    ap (λ (l : List PoolFile). l ++ numbered_file (highest + 1) ∷ []) is
-    ∙ ap (λ (k : ℕ). files_from 1 highest ++ numbered_file k ∷ []) one
-    ∙ from_more 1 highest
-    ∙ ap (files_from 1) more
-
 pub all_files_more : (closed : List Segment) (used : PoolFile) (free : List PoolFile) (f : PoolFile) → all_files closed used (free ++ f ∷ []) ≡ all_files closed used free ++ f ∷ []
 all_files_more closed used free f = sym (append_assoc (map named_file closed) (used ∷ free) (f ∷ []))
 
 -- all files with one more prepared
-pub listed_more : (highest : ℕ) (closed : List Segment) (used : PoolFile) (free : List PoolFile) → highest < 2 ^ 31 - 1 → AreListed highest 1 (all_files closed used free) → AreListed (highest + 1) 1 (all_files closed used (free ++ numbered_file (highest + 1) ∷ []))
-listed_more highest closed used free low a = subst (AreListed (highest + 1) 1) (sym (all_files_more closed used free (numbered_file (highest + 1)))) (listed_next highest 1 (all_files closed used free) a (omega arith) low)
+pub listed_more : (highest : ℕ) (closed : List Segment) (used : PoolFile) (free : List PoolFile) → highest < 2 ^ 31 - 1 → AreListed highest 0 (all_files closed used free) → AreListed (highest + 1) 0 (all_files closed used (free ++ numbered_file (highest + 1) ∷ []))
+listed_more highest closed used free low a = subst (AreListed (highest + 1) 0) (sym (all_files_more closed used free (numbered_file (highest + 1)))) (listed_next highest 0 (all_files closed used free) a (omega arith) low)
 
 -- the journal goes on to the next file
 pub all_files_on : (closed : List Segment) (used : PoolFile) (items : List Item) (f : PoolFile) (fs : List PoolFile) → all_files closed used (f ∷ fs) ≡ all_files (closed ++ segment used items ∷ []) f fs
@@ -123,23 +108,38 @@ module _ (highest : ℕ) (used : PoolFile) where
   next_above least [] f fs a = omega (arith, a.4.0)
   next_above least (g ∷ gs) f fs a = next_above (g.id + 1) gs f fs a.4
 
-  closed_below : (least : ℕ) (closed : List Segment) (free : List PoolFile) → AreListed highest least (all_files closed used free) → All (λ p. p.file < used.id) (records_of closed)
-  closed_below least [] free a = All-nil (λ p. p.file < used.id)
-  closed_below least (g ∷ gs) free a =
-      All-append (λ p. p.file < used.id) (records_in g) (records_of gs) (each (omega (arith, (used_between (g.id + 1) gs free a.4).0)) g.spots) (closed_below (g.id + 1) gs free a.4)
+  each_below : (g : Segment) (gs : List Segment) (free : List PoolFile) → AreListed highest (g.id + 1) (all_files gs used free) → All (λ p. p.file < used.id) (records_in g)
+  each_below g gs free a = each (omega (arith, (used_between (g.id + 1) gs free a).0)) g.spots
     where
       each : g.id < used.id → (spots : List Spot) → All (λ p. p.file < used.id) (map (placed g.id) spots)
       each below [] = All-nil (λ p. p.file < used.id)
       each below (s ∷ ss) = All-cons (λ p. p.file < used.id) (placed g.id s) (map (placed g.id) ss) below (each below ss)
 
-pub used_id : (highest : ℕ) (closed : List Segment) (used : PoolFile) (free : List PoolFile) → AreListed highest 1 (all_files closed used free) → (1 ≤ used.id) × (used.id ≤ highest)
-used_id highest closed used free a = used_between highest used 1 closed free a
+  closed_below : (least : ℕ) (closed : List Segment) (free : List PoolFile) → AreListed highest least (all_files closed used free) → All (λ p. p.file < used.id) (records_of closed)
+  closed_below least [] free a = All-nil (λ p. p.file < used.id)
+  closed_below least (g ∷ gs) free a = All-append (λ p. p.file < used.id) (records_in g) (records_of gs) (each_below g gs free a.4) (closed_below (g.id + 1) gs free a.4)
 
-pub next_id : (highest : ℕ) (closed : List Segment) (used f : PoolFile) (fs : List PoolFile) → AreListed highest 1 (all_files closed used (f ∷ fs)) → used.id < f.id
-next_id highest closed used f fs a = next_above highest used 1 closed f fs a
+  front_below : (least : ℕ) (old closed : List Segment) (free : List PoolFile) → AreListed highest least (all_files (old ++ closed) used free) → All (λ p. p.file < used.id) (records_of old)
+  front_below least [] closed free a = All-nil (λ p. p.file < used.id)
+  front_below least (g ∷ gs) closed free a = All-append (λ p. p.file < used.id) (records_in g) (records_of gs) (each_below g (gs ++ closed) free a.4) (front_below (g.id + 1) gs closed free a.4)
 
-pub closed_ids : (highest : ℕ) (closed : List Segment) (used : PoolFile) (free : List PoolFile) → AreListed highest 1 (all_files closed used free) → All (λ p. p.file < used.id) (records_of closed)
-closed_ids highest closed used free a = closed_below highest used 1 closed free a
+  back_below : (least : ℕ) (old closed : List Segment) (free : List PoolFile) → AreListed highest least (all_files (old ++ closed) used free) → All (λ p. p.file < used.id) (records_of closed)
+  back_below least [] closed free a = closed_below least closed free a
+  back_below least (g ∷ gs) closed free a = back_below (g.id + 1) gs closed free a.4
+
+pub used_id : (highest : ℕ) (closed : List Segment) (used : PoolFile) (free : List PoolFile) → AreListed highest 0 (all_files closed used free) → used.id ≤ highest
+used_id highest closed used free a = (used_between highest used 0 closed free a).1
+
+pub next_id : (highest : ℕ) (closed : List Segment) (used f : PoolFile) (fs : List PoolFile) → AreListed highest 0 (all_files closed used (f ∷ fs)) → used.id < f.id
+next_id highest closed used f fs a = next_above highest used 0 closed f fs a
+
+-- the records of a front of the closed files
+pub old_ids : (highest : ℕ) (old closed : List Segment) (used : PoolFile) (free : List PoolFile) → AreListed highest 0 (all_files (old ++ closed) used free) → All (λ p. p.file < used.id) (records_of old)
+old_ids highest old closed used free a = front_below highest used 0 old closed free a
+
+-- and of those behind it
+pub closed_ids : (highest : ℕ) (old closed : List Segment) (used : PoolFile) (free : List PoolFile) → AreListed highest 0 (all_files (old ++ closed) used free) → All (λ p. p.file < used.id) (records_of closed)
+closed_ids highest old closed used free a = back_below highest used 0 old closed free a
 
 -- ---- names apart
 

@@ -1,6 +1,6 @@
 -- What a command leaves in the chronicle, and what clauses say of its answer.
 use Rattle.std.proofs.Common.{◌≡◌, ◌⊎◌, inl, inr, ℕ, ◌+◌, ◌-◌, ◌^◌, ◌<◌, ◌≤◌, Bool, true, false, cond, ltb, leb, List, [], ◌∷◌, length, Option, None, Some, refl, sym, ap, subst, ◌∙◌, arith}
-use Rattle.std.specs.Prelude.{IfSome, is_some, option_map, Result, Ok, Err, ◌||◌, ◌&&◌}
+use Rattle.std.specs.Prelude.{IfSome, IsSome, is_some, option_map, Result, Ok, Err, ◌||◌, ◌&&◌}
 use Rattle.std.proofs.lemmas.Bool.{false≢true, ltb-false, leb-true, lt-ltb, le-ltb}
 use Rattle.std.proofs.lemmas.List.{length-append}
 use Rattle.amq_model.specs.declared.config.Config.{Config}
@@ -12,18 +12,22 @@ use Rattle.amq_model.specs.declared.history.Answer.TheVariants.{Done, Refused}
 use Rattle.amq_model.specs.declared.refusal.Refusal.{Refusal}
 use Rattle.amq_model.specs.declared.refusal.Refusal.TheVariants as r
 use Rattle.amq_model.specs.RecordAt.{len_of, spelling}
-use Rattle.amq_model.specs.Answers.{record_of, limit, too_large, first_some}
-use Rattle.amq_model.specs.Calls.{counted}
+use Rattle.amq_model.specs.Answers.{record_of, refusal, limit, too_large, first_some}
+use Rattle.amq_model.specs.Calls.{Past, counted}
+use Rattle.amq_model.specs.declared.history.Step.{Step}
 use Rattle.amq_io.specs.declared.faults.DiskFault.{DiskFault}
 use Rattle.amq_io.specs.declared.faults.DiskFault.TheVariants as f
 use Rattle.amq_record.proofs.Records.{length_spelling}
 use Rattle.amq_tx.specs.State.{TxState}
 use Rattle.amq_tx.specs.Refusing.{refusal_in}
+use Rattle.amq_tx.proofs.Refusals.{refusals_are}
 use Rattle.amq_pool.specs.declared.pool.PoolFile.{PoolFile}
 use Rattle.amq_pool.specs.Pools.{PoolOf, ids_of}
 use Rattle.amq_engine.specs.declared.tail.Tail.{Tail}
 use Rattle.amq_engine.specs.Lists.{Lists, with_step}
-use Rattle.amq_engine.specs.Engine.{EngineOf, Notes, is_noted, IsCommandRefusal, Parts, spent, passes, refused, receipted, fault_refusal, end_of_tail, with_put, placed_behind, written_out, readied, Waits, Wrote, overflows, flushes, is_flush, record_len, moves, prepares, asks_disk, is_nil}
+use Rattle.amq_engine.specs.Engine.{EngineOf, Notes, is_noted, IsCommandRefusal, IsTold, records, Parts, IsSound, spent, passes, refused, receipted, fault_refusal, end_of_tail, with_put, placed_behind, written_out, readied, Waits, Wrote, overflows, flushes, is_flush, record_len, moves, prepares, asks_disk, is_nil}
+use Rattle.amq_engine.proofs.History.{none_refused}
+use Rattle.amq_engine.proofs.Receipts.{if_some}
 use Rattle.amq_engine.proofs.Sound.{some_wait}
 use Rattle.amq_engine.proofs.Commanding.{IsTableRefusal, table_refusal, short_record}
 
@@ -168,6 +172,31 @@ spent_so config table command m top highest ids refusal low is told = by (too_la
     first_of (Some q) = refl
 
 -- ---- disk calls
+
+-- where no call was made, whatever was refused
+pub same_disk : {D : Type 0} (lists : Option Lists) (config : Config) (command : Command) (old new : D) → new ≡ old → IfSome lists (λ l. IsSome (refusal l.base l.steps config command) → new ≡ old)
+same_disk None config command old new same = tt
+same_disk (Some l) config command old new same = λ some. same
+
+-- Where the journal of one thread refuses the command, something did.
+pub nothing_refused : {D : Type 0} (past : Option Past) (lists : Option Lists) (room : ℕ) (config : Config) (table : TxState) (pool : PoolOf) (t : Tail) (command : Command) (by_numbers : Option Refusal) (old new : D) → IsSound past lists room config table pool t
+    → refused config (refusal_in table command) by_numbers command ≡ None → IfSome lists (λ l. IsSome (refusal l.base l.steps config command) → new ≡ old)
+nothing_refused past lists room config table pool t command by_numbers old new s none = if_some (IsTold past config.user_version s.parts.base t.durable (records s.parts.closed t.file s.parts.items) s.parts.steps) _ lists by s.told where
+  p : Parts config table pool t
+  p = s.parts
+
+  free : refusal p.base p.steps config command ≡ None
+  free = none_refused p.base p.steps config command (refusal_in table command) by_numbers (refusals_are table p.base p.steps p.follows command) none
+
+  no : (o : Option Refusal) → o ≡ None → IsSome o → new ≡ old
+  no None is some = absurd (nothing some)
+    where
+      nothing : IsSome {T = Refusal} None → ⊥
+      nothing e = cc
+  no (Some r) is some = absurd cc
+
+  by : (l : Lists) → IsTold past config.user_version p.base t.durable (records p.closed t.file p.items) p.steps l → IsSome (refusal l.base l.steps config command) → new ≡ old
+  by l told = no (refusal l.base l.steps config command) (ap (λ (b : List Placed). refusal b l.steps config command) told.base ∙ ap (λ (ss : List Step). refusal p.base ss config command) told.same ∙ free)
 
 or_false : (a b : Bool) → (a || b) ≡ false → (a ≡ false) × (b ≡ false)
 or_false true b is = absurd (false≢true (sym is))

@@ -20,27 +20,27 @@ if_mapped P Q g None f h = tt
 if_mapped P Q g (Some x) f h = f x h
 
 -- the history grows
-pub kept_grows : (wanted durable : ℕ) (history more : List Placed) (rs : List Receipted) (h : Option Past) → AreKept h wanted durable history rs → AreKept h wanted durable (history ++ more) rs
-kept_grows wanted durable history more [] h all = tt
-kept_grows wanted durable history more (r ∷ rs) h all = (
+pub kept_grows : (wanted : ℕ) (base : List Placed) (durable : ℕ) (history more : List Placed) (rs : List Receipted) (h : Option Past) → AreKept h wanted base durable history rs → AreKept h wanted base durable (history ++ more) rs
+kept_grows wanted base durable history more [] h all = tt
+kept_grows wanted base durable history more (r ∷ rs) h all = (
   (
     all.0.0,
-    λ low. kept_weaker (Holds wanted [] r.durable history) (Holds wanted [] r.durable (history ++ more)) r.moment h (λ s p. holds_grows wanted r.durable [] history more s p) (all.0.1 low),
+    λ low. kept_weaker (Holds wanted base r.durable history) (Holds wanted base r.durable (history ++ more)) r.moment h (λ s p. holds_grows wanted r.durable base history more s p) (all.0.1 low),
   ),
-  kept_grows wanted durable history more rs h all.1,
+  kept_grows wanted base durable history more rs h all.1,
 )
 
 -- each receipt through calls, from what is now
-pub kept_through : (I E : Files → Files → Type 0) (R : Files → Type 0) (wanted durable : ℕ) (history : List Placed) (rs : List Receipted) (a b : Option Past) → AreKept a wanted durable history rs → AllReads a R
-    → ((d : ℕ) → d ≤ durable → (o s : Files) → R o → I o s → Holds wanted [] d history s) → Leaves I E a b → AreKept b wanted durable history rs
-kept_through I E R wanted durable history [] a b all now inside leaves = tt
-kept_through I E R wanted durable history (r ∷ rs) a b all now inside leaves = (
-  (all.0.0, λ low. kept_from I E (Holds wanted [] r.durable history) R r.moment a b (all.0.1 low) now (inside r.durable all.0.0) leaves),
-  kept_through I E R wanted durable history rs a b all.1 now inside leaves,
+pub kept_through : (I E : Files → Files → Type 0) (R : Files → Type 0) (wanted : ℕ) (base : List Placed) (durable : ℕ) (history : List Placed) (rs : List Receipted) (a b : Option Past) → AreKept a wanted base durable history rs → AllReads a R
+    → ((d : ℕ) → d ≤ durable → (o s : Files) → R o → I o s → Holds wanted base d history s) → Leaves I E a b → AreKept b wanted base durable history rs
+kept_through I E R wanted base durable history [] a b all now inside leaves = tt
+kept_through I E R wanted base durable history (r ∷ rs) a b all now inside leaves = (
+  (all.0.0, λ low. kept_from I E (Holds wanted base r.durable history) R r.moment a b (all.0.1 low) now (inside r.durable all.0.0) leaves),
+  kept_through I E R wanted base durable history rs a b all.1 now inside leaves,
 )
 
 -- one more receipt
-pub kept_push : (wanted durable later : ℕ) (history : List Placed) (rs : List Receipted) (count m : ℕ) (h : Option Past) → durable ≤ later → count ≤ later → AreKept h wanted durable history rs
-    → (m < 2 ^ 64 - 1 → HoldsSince h m (Holds wanted [] count history)) → AreKept h wanted later history (rs ++ record { durable = count; moment = m } ∷ [])
-kept_push wanted durable later history [] count m h le most all kept = ((most, kept), tt)
-kept_push wanted durable later history (r ∷ rs) count m h le most all kept = ((omega (arith, all.0.0, le), all.0.1), kept_push wanted durable later history rs count m h le most all.1 kept)
+pub kept_push : (wanted : ℕ) (base : List Placed) (durable later : ℕ) (history : List Placed) (rs : List Receipted) (count m : ℕ) (h : Option Past) → durable ≤ later → count ≤ later → AreKept h wanted base durable history rs
+    → (m < 2 ^ 64 - 1 → HoldsSince h m (Holds wanted base count history)) → AreKept h wanted base later history (rs ++ record { durable = count; moment = m } ∷ [])
+kept_push wanted base durable later history [] count m h le most all kept = ((most, kept), tt)
+kept_push wanted base durable later history (r ∷ rs) count m h le most all kept = ((omega (arith, all.0.0, le), all.0.1), kept_push wanted base durable later history rs count m h le most all.1 kept)

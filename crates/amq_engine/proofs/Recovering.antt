@@ -8,7 +8,7 @@ use Rattle.amq_model.specs.Answers.{history_of}
 use Rattle.amq_model.specs.Calls.{Past, counted}
 use Rattle.amq_model.specs.Crash.{NoFalseRecord}
 use Rattle.amq_model.specs.Headline.{LoadsKept, RecoversSince}
-use Rattle.amq_model.specs.Legal.{AreLegalFrom, AreLegal}
+use Rattle.amq_model.specs.Legal.{AreLegalFrom}
 use Rattle.amq_model.proofs.Recovering.{left_from}
 use Rattle.amq_tx.specs.State.{TxState}
 use Rattle.amq_scan.specs.Segments.{records_of}
@@ -16,7 +16,7 @@ use Rattle.amq_scan.proofs.Parts.{Has, all_by}
 use Rattle.amq_pool.specs.Pools.{PoolOf}
 use Rattle.amq_engine.specs.declared.chronicle.Receipted.{Receipted}
 use Rattle.amq_engine.specs.declared.tail.Tail.{Tail}
-use Rattle.amq_engine.specs.Engine.{Holds, AreKept, IsTold, records, IsValid}
+use Rattle.amq_engine.specs.Engine.{Holds, AreKept, IsTold, records, Stage, IsValid}
 use Rattle.amq_engine.specs.Lists.{Lists, with_step, with_receipt}
 use Rattle.amq_engine.specs.Receipts.{FollowUpTo, AreInOrder, EndsWith, IsLastCount, IsCrashSafe}
 use Rattle.amq_engine.proofs.Holding.{holds_loads, length-records}
@@ -24,44 +24,44 @@ use Rattle.amq_engine.proofs.Holding.{holds_loads, length-records}
 -- ---- what is recovered
 
 -- each receipt has what the headline says
-kept_recover : (config : Config) (wanted durable : ℕ) (base history told : List Placed) (steps : List Step) (past : Option Past) (rs : List Receipted) → AreLegalFrom [] config [] steps → history_of steps ≡ history → base ≡ [] → told ≡ history → AreKept past wanted durable history rs
+kept_recover : (config : Config) (wanted durable : ℕ) (base known history told : List Placed) (steps : List Step) (past : Option Past) (rs : List Receipted) → AreLegalFrom known config [] steps → history_of steps ≡ history → base ≡ known → told ≡ history → AreKept past wanted known durable history rs
     → (q : Receipted) → Has rs q → q.moment < 2 ^ 64 - 1 → RecoversSince past q.moment wanted base told q.durable
-kept_recover config wanted durable base history told steps past [] legal is none same kept q has low = absurd has
-kept_recover config wanted durable base history told steps past (r ∷ rs) legal is none same kept q (inr has) low = kept_recover config wanted durable base history told steps past rs legal is none same kept.1 q has low
-kept_recover config wanted durable base history told steps past (r ∷ rs) legal is none same kept q (inl e) low =
+kept_recover config wanted durable base known history told steps past [] legal is based same kept q has low = absurd has
+kept_recover config wanted durable base known history told steps past (r ∷ rs) legal is based same kept q (inr has) low = kept_recover config wanted durable base known history told steps past rs legal is based same kept.1 q has low
+kept_recover config wanted durable base known history told steps past (r ∷ rs) legal is based same kept q (inl e) low =
     subst (λ (q : Receipted). q.moment < 2 ^ 64 - 1 → RecoversSince past q.moment wanted base told q.durable) e
-    (λ early. subst (λ (b : List Placed). RecoversSince past r.moment wanted b told r.durable) (sym none)
-    (subst (λ (ps : List Placed). RecoversSince past r.moment wanted [] ps r.durable) (sym same)
-    (left_from (Holds wanted [] r.durable history) (λ reading image. NoFalseRecord reading image → LoadsKept [] history r.durable wanted image) r.moment past
-    (λ s reading image holds reads left none_false. holds_loads config wanted r.durable [] history steps s reading image legal is holds reads left none_false)
+    (λ early. subst (λ (b : List Placed). RecoversSince past r.moment wanted b told r.durable) (sym based)
+    (subst (λ (ps : List Placed). RecoversSince past r.moment wanted known ps r.durable) (sym same)
+    (left_from (Holds wanted known r.durable history) (λ reading image. NoFalseRecord reading image → LoadsKept known history r.durable wanted image) r.moment past
+    (λ s reading image holds reads left none_false. holds_loads config wanted r.durable known history steps s reading image legal is holds reads left none_false)
     (kept.0.1 early)))) low
 
 -- no receipt counts more than there is
-kept_count : (wanted durable count : ℕ) (history : List Placed) (past : Option Past) (rs : List Receipted) → durable ≤ count → AreKept past wanted durable history rs → (q : Receipted) → Has rs q → q.durable ≤ count
-kept_count wanted durable count history past [] most kept q has = absurd has
-kept_count wanted durable count history past (r ∷ rs) most kept q (inl same) = subst (λ (q : Receipted). q.durable ≤ count) same (omega (arith, kept.0.0, most))
-kept_count wanted durable count history past (r ∷ rs) most kept q (inr has) = kept_count wanted durable count history past rs most kept.1 q has
+kept_count : (wanted : ℕ) (base : List Placed) (durable count : ℕ) (history : List Placed) (past : Option Past) (rs : List Receipted) → durable ≤ count → AreKept past wanted base durable history rs → (q : Receipted) → Has rs q → q.durable ≤ count
+kept_count wanted base durable count history past [] most kept q has = absurd has
+kept_count wanted base durable count history past (r ∷ rs) most kept q (inl same) = subst (λ (q : Receipted). q.durable ≤ count) same (omega (arith, kept.0.0, most))
+kept_count wanted base durable count history past (r ∷ rs) most kept q (inr has) = kept_count wanted base durable count history past rs most kept.1 q has
 
 -- the chronicle is crash safe
-pub told_safe : (past : Option Past) (moment : ℕ) (config : Config) (durable : ℕ) (history : List Placed) (steps : List Step) (l : Lists) → history_of steps ≡ history → AreLegal [] steps config → durable ≤ length history → IsTold past config.user_version durable history steps l
+pub told_safe : (past : Option Past) (moment : ℕ) (config : Config) (base : List Placed) (durable : ℕ) (history : List Placed) (steps : List Step) (l : Lists) → history_of steps ≡ history → AreLegalFrom base config [] steps → durable ≤ length history → IsTold past config.user_version base durable history steps l
     → AreInOrder moment l.receipts → IsCrashSafe past moment config.user_version l
-told_safe past moment config durable history steps l is legal most told order =
+told_safe past moment config base durable history steps l is legal most told order =
     let wanted : ℕ = config.user_version in
     let same : history_of l.steps ≡ history = ap history_of told.same ∙ is in
     record {
-      counted = all_by (λ (r : Receipted). r.durable ≤ length (history_of l.steps)) l.receipts (kept_count wanted durable (length (history_of l.steps)) history past l.receipts (omega (arith, most, ap length same)) told.kept);
+      counted = all_by (λ (r : Receipted). r.durable ≤ length (history_of l.steps)) l.receipts (kept_count wanted base durable (length (history_of l.steps)) history past l.receipts (omega (arith, most, ap length same)) told.kept);
       recovers = all_by (λ (r : Receipted). r.moment < 2 ^ 64 - 1 → RecoversSince past r.moment wanted l.base (history_of l.steps) r.durable) l.receipts
-          (kept_recover config wanted durable l.base history (history_of l.steps) steps past l.receipts legal.each is told.base same told.kept);
+          (kept_recover config wanted durable l.base base history (history_of l.steps) steps past l.receipts legal is told.base same told.kept);
       receipts = order;
     }
 
-pub valid_safe : (past : Option Past) (moment : ℕ) (lists : Option Lists) (room : ℕ) (config : Config) (table : TxState) (pool : PoolOf) (tail : Tail) → IsValid past moment lists room config table pool tail → IfSome lists (IsCrashSafe past moment config.user_version)
-valid_safe past moment None room config table pool tail v = tt
-valid_safe past moment (Some l) room config table pool tail v =
+pub valid_safe : (stage : Stage) (past : Option Past) (moment : ℕ) (lists : Option Lists) (room : ℕ) (config : Config) (table : TxState) (pool : PoolOf) (tail : Tail) → IsValid stage past moment lists room config table pool tail → IfSome lists (IsCrashSafe past moment config.user_version)
+valid_safe stage past moment None room config table pool tail v = tt
+valid_safe stage past moment (Some l) room config table pool tail v =
     let s = v.sound.parts in
     let some : s.sure ≤ length s.items = s.some in
     let durable : tail.durable ≡ length (records_of s.closed) + s.sure = s.durable in
-    told_safe past moment config tail.durable (records s.closed tail.file s.items) s.steps l s.placed s.legal (omega (arith, some, durable, length-records s.closed tail.file s.items)) v.sound.told v.order
+    told_safe past moment config s.base tail.durable (records s.closed tail.file s.items) s.steps l s.placed s.each (omega (arith, some, durable, length-records s.closed tail.file s.items)) v.sound.told v.order
 
 -- ---- receipts
 

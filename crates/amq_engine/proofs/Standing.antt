@@ -16,14 +16,14 @@ use Rattle.amq_header.proofs.Endings.{mark, mark_of, same_is, same_self}
 use Rattle.amq_header.proofs.Exclusive.{data_mark}
 use Rattle.amq_header.proofs.Made.{data_is_read}
 use Rattle.amq_scan.specs.Written.{Item, IsItem, file_bytes, spelled, end_from}
-use Rattle.amq_scan.specs.Segments.{Segment, IsNamed, IsSegment}
+use Rattle.amq_scan.specs.Segments.{Segment, IsNamed, IsSegment, IsClosed, AreClosed}
 use Rattle.amq_scan.proofs.Lengths.{fill_rest}
 use Rattle.amq_pool.specs.declared.pool.PoolFile.{PoolFile}
 use Rattle.amq_pool.specs.Pools.{header_for, file_for, numbered_file, Making, Made, Unmade}
 use Rattle.amq_pool.proofs.Contents.{header_long, file_long}
 use Rattle.amq_engine.specs.Puts.{IsPutting, Puts, Put}
 use Rattle.amq_engine.specs.Engine.{IsNewItem}
-use Rattle.amq_engine.specs.Directory.{segment, all_files, HasName, AreListed, IsClosed, AreClosed, IsInUse, ArePrepared, Stands, StandsNow}
+use Rattle.amq_engine.specs.Directory.{segment, all_files, HasName, AreListed, IsInUse, ArePrepared, Stands, StandsNow}
 use Rattle.amq_engine.proofs.Putting.{length-overlaid}
 use Rattle.amq_engine.proofs.Texts.{whole_put}
 use Rattle.amq_engine.proofs.Segments.{number_names, in_use_segment}
@@ -74,7 +74,7 @@ temporary_apart n q (inr control) is = omega (arith, temporary_marked n, ap mark
 -- ---- what is kept
 
 -- what matters but one name, and that name too
-kept_but : (o s : Files) (n : FileName) → ((q : FileName) → Matters q → (q ≡ n → ⊥) → finite.get s q ≡ finite.get o q) → finite.get s n ≡ finite.get o n → (q : FileName) → Matters q → finite.get s q ≡ finite.get o q
+pub kept_but : (o s : Files) (n : FileName) → ((q : FileName) → Matters q → (q ≡ n → ⊥) → finite.get s q ≡ finite.get o q) → finite.get s n ≡ finite.get o n → (q : FileName) → Matters q → finite.get s q ≡ finite.get o q
 kept_but o s n others here q matters = by (same_or_not q n)
   where
     by : (q ≡ n) ⊎ (q ≡ n → ⊥) → finite.get s q ≡ finite.get o q
@@ -82,11 +82,11 @@ kept_but o s n others here q matters = by (same_or_not q n)
     by (inr ne) = others q matters ne
 
 -- closed files are as they were
-closed_kept : (wanted : ℕ) (o s : Files) (gs : List Segment) → ((q : FileName) → IsNamed q gs → finite.get s q ≡ finite.get o q) → AreClosed wanted o gs → AreClosed wanted s gs
+pub closed_kept : (wanted : ℕ) (o s : Files) (gs : List Segment) → ((q : FileName) → IsNamed q gs → finite.get s q ≡ finite.get o q) → AreClosed wanted o gs → AreClosed wanted s gs
 closed_kept wanted o s [] kept a = tt
 closed_kept wanted o s (g ∷ gs) kept a = (record { file = a.0.file; there = kept g.name (inl refl) ∙ a.0.there; is = a.0.is; still = a.0.still }, closed_kept wanted o s gs (λ q h. kept q (inr h)) a.1)
 
-closed_data : (wanted : ℕ) (o : Files) (gs : List Segment) (q : FileName) → AreClosed wanted o gs → IsNamed q gs → IsTrue (is_data q)
+pub closed_data : (wanted : ℕ) (o : Files) (gs : List Segment) (q : FileName) → AreClosed wanted o gs → IsNamed q gs → IsTrue (is_data q)
 closed_data wanted o [] q a h = absurd h
 closed_data wanted o (g ∷ gs) q a (inl e) = subst (λ (n : FileName). IsTrue (is_data n)) e a.0.is.named
 closed_data wanted o (g ∷ gs) q a (inr h) = closed_data wanted o gs q a.1 h
@@ -134,7 +134,7 @@ module _ (config : Config) where
             closed_there = closed_kept config.user_version o s closed (λ q h. kept q (inl (closed_data config.user_version o closed q was.closed_there h))) was.closed_there;
             used_there = used_kept o s sure items (listed_kept used.name (has_used closed used free)) was.used_there;
             free_there = free_kept o s free (λ q h. listed_kept q (has_free q closed used free h)) was.free_there;
-            only = λ q file named there. was.only q file named (sym (kept q (inl named)) ∙ there);
+            only = λ q file named long there. was.only q file named long (sym (kept q (inl named)) ∙ there);
             uncontrolled = kept control_name (inr refl) ∙ was.uncontrolled;
           }
 
@@ -146,39 +146,39 @@ module _ (config : Config) where
             closed_there = closed_kept config.user_version o s closed (λ q h. others q (λ e. closed_apart highest least closed used free listed (subst (λ (n : FileName). IsNamed n closed) e h))) was.closed_there;
             used_there = now;
             free_there = free_kept o s free (λ q h. others q (λ e. free_apart highest least closed used free listed (subst (λ (n : FileName). HasName n free) e h))) was.free_there;
-            only = λ q file of_data there. found q file of_data there (same_or_not q used.name);
+            only = λ q file of_data long there. found q file of_data long there (same_or_not q used.name);
             uncontrolled = others control_name (λ e. control_apart used.name named (sym e)) ∙ was.uncontrolled;
           }
         where
-          found : (q : FileName) (file : File) → IsTrue (is_data q) → finite.get s q ≡ Some file → (q ≡ used.name) ⊎ (q ≡ used.name → ⊥) → HasName q (all_files closed used free)
-          found q file of_data there (inl e) = subst (λ (n : FileName). HasName n (all_files closed used free)) (sym e) (has_used closed used free)
-          found q file of_data there (inr ne) = was.only q file of_data (sym (others q ne) ∙ there)
+          found : (q : FileName) (file : File) → IsTrue (is_data q) → 16 ≤ length file.bytes → finite.get s q ≡ Some file → (q ≡ used.name) ⊎ (q ≡ used.name → ⊥) → HasName q (all_files closed used free)
+          found q file of_data long there (inl e) = subst (λ (n : FileName). HasName n (all_files closed used free)) (sym e) (has_used closed used free)
+          found q file of_data long there (inr ne) = was.only q file of_data long (sym (others q ne) ∙ there)
 
     -- one file more is prepared
-    stands_more : (highest : ℕ) (free : List PoolFile) → highest < 2 ^ 31 - 1 → AreListed highest 1 (all_files closed used free) → (o s : Files)
+    stands_more : (highest : ℕ) (free : List PoolFile) → highest < 2 ^ 31 - 1 → AreListed highest 0 (all_files closed used free) → (o s : Files)
         → ((q : FileName) → Matters q → (q ≡ data_name (highest + 1) → ⊥) → finite.get s q ≡ finite.get o q) → finite.get s (data_name (highest + 1)) ≡ Some (file_for config (highest + 1))
         → (sure : ℕ) (items : List Item) → Stands config closed used sure items free o → Stands config closed used sure items (free ++ numbered_file (highest + 1) ∷ []) s
     stands_more highest free low listed o s kept new sure items was =
         let files : List PoolFile = all_files closed used free in
         let next : PoolFile = numbered_file (highest + 1) in
-        let apart : (q : FileName) → HasName q files → q ≡ data_name (highest + 1) → ⊥ = λ q h e. next_apart highest 1 files listed (omega (arith, low)) (subst (λ (n : FileName). HasName n files) e h) in
-        let listed_kept : (q : FileName) → HasName q files → finite.get s q ≡ finite.get o q = λ q h. kept q (inl (listed_data highest 1 files q listed h)) (apart q h) in
+        let apart : (q : FileName) → HasName q files → q ≡ data_name (highest + 1) → ⊥ = λ q h e. next_apart highest 0 files listed (omega (arith, low)) (subst (λ (n : FileName). HasName n files) e h) in
+        let listed_kept : (q : FileName) → HasName q files → finite.get s q ≡ finite.get o q = λ q h. kept q (inl (listed_data highest 0 files q listed h)) (apart q h) in
         let more = all_files_more closed used free next in
         record {
           closed_there = closed_kept config.user_version o s closed (λ q h. listed_kept q (has_closed q closed used free h)) was.closed_there;
           used_there = used_kept o s sure items (listed_kept used.name (has_used closed used free)) was.used_there;
           free_there = free_more s free next (free_kept o s free (λ q h. listed_kept q (has_free q closed used free h)) was.free_there) new;
-          only = λ q file named there. subst (HasName q) (sym more) (found q file named there (same_or_not q (data_name (highest + 1))));
+          only = λ q file named long there. subst (HasName q) (sym more) (found q file named long there (same_or_not q (data_name (highest + 1))));
           uncontrolled = kept control_name (inr refl) (λ e. control_apart (data_name (highest + 1)) (number_names (data_name (highest + 1)) (highest + 1) (data_is_read (highest + 1) (omega (arith, low)))) (sym e)) ∙ was.uncontrolled;
         }
       where
-        found : (q : FileName) (file : File) → IsTrue (is_data q) → finite.get s q ≡ Some file → (q ≡ data_name (highest + 1)) ⊎ (q ≡ data_name (highest + 1) → ⊥) → HasName q (all_files closed used free ++ numbered_file (highest + 1) ∷ [])
-        found q file named there (inl e) = has_back q (all_files closed used free) (numbered_file (highest + 1) ∷ []) (inl (sym e))
-        found q file named there (inr ne) = has_front q (all_files closed used free) (numbered_file (highest + 1) ∷ []) (was.only q file named (sym (kept q (inl named) ne) ∙ there))
+        found : (q : FileName) (file : File) → IsTrue (is_data q) → 16 ≤ length file.bytes → finite.get s q ≡ Some file → (q ≡ data_name (highest + 1)) ⊎ (q ≡ data_name (highest + 1) → ⊥) → HasName q (all_files closed used free ++ numbered_file (highest + 1) ∷ [])
+        found q file named long there (inl e) = has_back q (all_files closed used free) (numbered_file (highest + 1) ∷ []) (inl (sym e))
+        found q file named long there (inr ne) = has_front q (all_files closed used free) (numbered_file (highest + 1) ∷ []) (was.only q file named long (sym (kept q (inl named) ne) ∙ there))
 
     -- the same of a directory that may have one file more
-    now_by : (sure new highest : ℕ) (old items : List Item) (free : List PoolFile) → AreListed highest 1 (all_files closed used free) → (o s : Files)
-        → ((most : ℕ) (fs : List PoolFile) → AreListed most 1 (all_files closed used fs) → Stands config closed used sure old fs o → Stands config closed used new items fs s)
+    now_by : (sure new highest : ℕ) (old items : List Item) (free : List PoolFile) → AreListed highest 0 (all_files closed used free) → (o s : Files)
+        → ((most : ℕ) (fs : List PoolFile) → AreListed most 0 (all_files closed used fs) → Stands config closed used sure old fs o → Stands config closed used new items fs s)
         → StandsNow config closed used sure old highest free o → StandsNow config closed used new items highest free s
     now_by sure new highest old items free listed o s on (inl was) = inl (on highest free listed was)
     now_by sure new highest old items free listed o s on (inr was) = inr (was.0, on (highest + 1) (free ++ numbered_file (highest + 1) ∷ []) (listed_more highest closed used free was.0 listed) was.1)
@@ -242,49 +242,49 @@ module _ (config : Config) (closed : List Segment) (used : PoolFile) (sure : ℕ
         }
 
     -- while bytes are put, and wherever that ends
-    pub puts_stand : AreListed highest 1 (all_files closed used free) → (o s : Files)
+    pub puts_stand : AreListed highest 0 (all_files closed used free) → (o s : Files)
         → StandsNow config closed used sure items highest free o → Puts used.name place bytes o s → StandsNow config closed used sure items highest free s
     puts_stand listed o s was puts = now_by config closed used sure sure highest items items free listed o s on was
       where
-        on : (most : ℕ) (fs : List PoolFile) → AreListed most 1 (all_files closed used fs) → Stands config closed used sure items fs o → Stands config closed used sure items fs s
+        on : (most : ℕ) (fs : List PoolFile) → AreListed most 0 (all_files closed used fs) → Stands config closed used sure items fs o → Stands config closed used sure items fs s
         on most fs at_most stood =
             let u = stood.used_there in
             let new = puts.this u.file u.there in
-            stands_used config closed used most 1 fs at_most o s puts.others sure sure items items (used_by o s u new.0 new.1 new.2 new.2.reads) stood
+            stands_used config closed used most 0 fs at_most o s puts.others sure sure items items (used_by o s u new.0 new.1 new.2 new.2.reads) stood
 
     -- in the end
-    pub put_stands : AreListed highest 1 (all_files closed used free) → (o s : Files)
+    pub put_stands : AreListed highest 0 (all_files closed used free) → (o s : Files)
         → StandsNow config closed used sure items highest free o → Put used.name place bytes o s → StandsNow config closed used (length items) items highest free s
     put_stands listed o s was end = now_by config closed used sure (length items) highest items items free listed o s on was
       where
-        on : (most : ℕ) (fs : List PoolFile) → AreListed most 1 (all_files closed used fs) → Stands config closed used sure items fs o → Stands config closed used (length items) items fs s
-        on most fs at_most stood = let u = stood.used_there in stands_used config closed used most 1 fs at_most o s end.others sure (length items) items items (used_put o s u (end.this u.file u.there)) stood
+        on : (most : ℕ) (fs : List PoolFile) → AreListed most 0 (all_files closed used fs) → Stands config closed used sure items fs o → Stands config closed used (length items) items fs s
+        on most fs at_most stood = let u = stood.used_there in stands_used config closed used most 0 fs at_most o s end.others sure (length items) items items (used_put o s u (end.this u.file u.there)) stood
 
 -- ---- a file is prepared
 
 module _ (config : Config) (closed : List Segment) (used : PoolFile) (sure : ℕ) (items : List Item) (highest : ℕ) (free : List PoolFile) where
   -- the next file is there
-  next_there : highest < 2 ^ 31 - 1 → AreListed highest 1 (all_files closed used free) → (o s : Files) → ((q : FileName) → (q ≡ temporary_name (highest + 1) → ⊥) → (q ≡ data_name (highest + 1) → ⊥) → finite.get s q ≡ finite.get o q)
+  next_there : highest < 2 ^ 31 - 1 → AreListed highest 0 (all_files closed used free) → (o s : Files) → ((q : FileName) → (q ≡ temporary_name (highest + 1) → ⊥) → (q ≡ data_name (highest + 1) → ⊥) → finite.get s q ≡ finite.get o q)
       → finite.get s (data_name (highest + 1)) ≡ Some (file_for config (highest + 1)) → StandsNow config closed used sure items highest free o → Stands config closed used sure items (free ++ numbered_file (highest + 1) ∷ []) s
   next_there low listed o s others new (inl was) = stands_more config closed used highest free low listed o s (λ q matters ne. others q (temporary_apart (highest + 1) q matters) ne) new sure items was
   next_there low listed o s others new (inr was) =
       let more : List PoolFile = free ++ numbered_file (highest + 1) ∷ [] in
       let here : finite.get s (data_name (highest + 1)) ≡ finite.get o (data_name (highest + 1)) = new ∙ sym (free_last config o free (numbered_file (highest + 1)) was.1.free_there) in
-      stands_same config closed used (highest + 1) 1 more (listed_more highest closed used free low listed) o s
+      stands_same config closed used (highest + 1) 0 more (listed_more highest closed used free low listed) o s
       (kept_but o s (data_name (highest + 1)) (λ q matters ne. others q (temporary_apart (highest + 1) q matters) ne) here) sure items was.1
 
-  pub made_stands : highest < 2 ^ 31 - 1 → AreListed highest 1 (all_files closed used free) → (o s : Files) → StandsNow config closed used sure items highest free o → Made config (highest + 1) o s
+  pub made_stands : highest < 2 ^ 31 - 1 → AreListed highest 0 (all_files closed used free) → (o s : Files) → StandsNow config closed used sure items highest free o → Made config (highest + 1) o s
       → Stands config closed used sure items (free ++ numbered_file (highest + 1) ∷ []) s
   made_stands low listed o s was made = next_there low listed o s made.others made.final was
 
   -- all that matters is as it was
-  same_stand : AreListed highest 1 (all_files closed used free) → (o s : Files) → ((q : FileName) → Matters q → finite.get s q ≡ finite.get o q) → StandsNow config closed used sure items highest free o → StandsNow config closed used sure items highest free s
-  same_stand listed o s kept was = now_by config closed used sure sure highest items items free listed o s (λ most fs at_most stood. stands_same config closed used most 1 fs at_most o s kept sure items stood) was
+  same_stand : AreListed highest 0 (all_files closed used free) → (o s : Files) → ((q : FileName) → Matters q → finite.get s q ≡ finite.get o q) → StandsNow config closed used sure items highest free o → StandsNow config closed used sure items highest free s
+  same_stand listed o s kept was = now_by config closed used sure sure highest items items free listed o s (λ most fs at_most stood. stands_same config closed used most 0 fs at_most o s kept sure items stood) was
 
-  pub unmade_stands : AreListed highest 1 (all_files closed used free) → (o s : Files) → StandsNow config closed used sure items highest free o → Unmade (highest + 1) o s → StandsNow config closed used sure items highest free s
+  pub unmade_stands : AreListed highest 0 (all_files closed used free) → (o s : Files) → StandsNow config closed used sure items highest free o → Unmade (highest + 1) o s → StandsNow config closed used sure items highest free s
   unmade_stands listed o s was spares = same_stand listed o s (λ q matters. spares q (temporary_apart (highest + 1) q matters)) was
 
-  pub making_stands : highest < 2 ^ 31 - 1 → AreListed highest 1 (all_files closed used free) → (o s : Files) → StandsNow config closed used sure items highest free o → Making config (highest + 1) o s
+  pub making_stands : highest < 2 ^ 31 - 1 → AreListed highest 0 (all_files closed used free) → (o s : Files) → StandsNow config closed used sure items highest free o → Making config (highest + 1) o s
       → StandsNow config closed used sure items highest free s
   making_stands low listed o s was making = by making.final
     where
@@ -311,12 +311,12 @@ prepared_in_use config f is s there = record {
 }
 
 module _ (config : Config) (closed : List Segment) (used : PoolFile) (sure : ℕ) (items : List Item) (highest : ℕ) (f : PoolFile) (fs : List PoolFile) (is : IsConfig config) (new : All IsNewItem items) where
-  module _ (most : highest ≤ 2 ^ 31 - 1) (listed : AreListed highest 1 (all_files closed used (f ∷ fs))) (all : sure ≡ length items) where
+  module _ (most : highest ≤ 2 ^ 31 - 1) (listed : AreListed highest 0 (all_files closed used (f ∷ fs))) (all : sure ≡ length items) where
     -- the file that was in use is closed
     use_closed : (s : Files) → IsInUse config used sure items s → IsClosed config.user_version s (segment used items)
     use_closed s u =
-        let named : IsTrue (is_data used.name) = listed_data highest 1 (all_files closed used (f ∷ fs)) used.name listed (has_used closed used (f ∷ fs)) in
-        let low : used.id < 2 ^ 31 = omega (arith, most, (used_id highest closed used (f ∷ fs) listed).1) in
+        let named : IsTrue (is_data used.name) = listed_data highest 0 (all_files closed used (f ∷ fs)) used.name listed (has_used closed used (f ∷ fs)) in
+        let low : used.id < 2 ^ 31 = omega (arith, most, used_id highest closed used (f ∷ fs) listed) in
         let are : All (IsItem 2) items = All-weaker IsNewItem (IsItem 2) (λ x n. n.item) items new in
         record {
           file = u.file;
@@ -330,7 +330,7 @@ module _ (config : Config) (closed : List Segment) (used : PoolFile) (sure : ℕ
       closed_there = closed_more config.user_version s closed (segment used items) was.closed_there (use_closed s was.used_there);
       used_there = prepared_in_use config f is s was.free_there.0;
       free_there = was.free_there.1;
-      only = λ q file of_data there. subst (HasName q) (all_files_on closed used items f rest) (was.only q file of_data there);
+      only = λ q file of_data long there. subst (HasName q) (all_files_on closed used items f rest) (was.only q file of_data long there);
       uncontrolled = was.uncontrolled;
     }
 

@@ -7,7 +7,7 @@ use Rattle.amq_model.specs.Names.{is_data, data_number, control_name}
 use Rattle.amq_model.specs.Directory.{placed}
 use Rattle.amq_model.specs.Files.{FileName, Files, File, IsPending}
 use Rattle.amq_scan.specs.Written.{Item, IsFill, file_bytes, spots_from, end_from}
-use Rattle.amq_scan.specs.Segments.{Segment, records_of, IsSegment, IsDirectory}
+use Rattle.amq_scan.specs.Segments.{Segment, records_of, AreClosed, IsClosedDirectory}
 use Rattle.amq_pool.specs.declared.pool.PoolFile.{PoolFile}
 use Rattle.amq_pool.specs.Pools.{header_for, file_for, numbered_file}
 
@@ -52,17 +52,6 @@ files_from first (suc n) = numbered_file first ∷ files_from (first + 1) n
 
 -- ---- the directory
 
--- The file is there, its scan finds these records, and nothing of it is pending.
-pub record IsClosed (wanted : ℕ) (s : Files) (g : Segment) : Type 0 where
-  pub file : File
-  pub there : finite.get s g.name ≡ Some file
-  pub is : IsSegment wanted g file.bytes
-  pub still : (i : ℕ) → IsPending file.pending i → ⊥
-
-abbrev pub AreClosed : ℕ → Files → List Segment → Type 0
-AreClosed wanted s [] = Unit {0}
-AreClosed wanted s (g ∷ gs) = IsClosed wanted s g × AreClosed wanted s gs
-
 -- The file in use reads as its header, a front of these records, and filling. Nothing of its first `sure` records is pending, and nothing at all where those are all.
 pub record IsInUse (config : Config) (used : PoolFile) (sure : ℕ) (items : List Item) (s : Files) : Type 0 where
   pub file : File
@@ -82,12 +71,12 @@ abbrev pub ArePrepared : Config → Files → List PoolFile → Type 0
 ArePrepared config s [] = Unit {0}
 ArePrepared config s (f ∷ fs) = (finite.get s f.name ≡ Some (file_for config f.id)) × ArePrepared config s fs
 
--- The directory has these data files and no other, and no control file. Files of other names may be there.
+-- The directory has these data files and no other, and no control file. Files of other names may be there, and data files' names with fewer than 16 bytes.
 pub record Stands (config : Config) (closed : List Segment) (used : PoolFile) (sure : ℕ) (items : List Item) (free : List PoolFile) (s : Files) : Type 0 where
   pub closed_there : AreClosed config.user_version s closed
   pub used_there : IsInUse config used sure items s
   pub free_there : ArePrepared config s free
-  pub only : (n : FileName) (file : File) → IsTrue (is_data n) → finite.get s n ≡ Some file → HasName n (all_files closed used free)
+  pub only : (n : FileName) (file : File) → IsTrue (is_data n) → 16 ≤ length file.bytes → finite.get s n ≡ Some file → HasName n (all_files closed used free)
   pub uncontrolled : finite.get s control_name ≡ None
 
 -- the same, where one more file may be prepared: the one whose preparation ended in a failed call
@@ -104,18 +93,8 @@ IsEmpty s = (q : FileName) → finite.get s q ≡ None
 
 -- ---- when all is durable
 
--- the files are numbered from this one on
-abbrev pub AreNumbered : ℕ → List Segment → Type 0
-AreNumbered first [] = Unit {0}
-AreNumbered first (g ∷ gs) = (named_file g ≡ numbered_file first) × AreNumbered (first + 1) gs
-
--- The directory's data files are numbered from 1 on, at least up to `all`, and hold this history, all of it durable: the first `last` of them have its records, and the others none.
-pub record IsJournal (wanted last all : ℕ) (history : List Placed) (s : Files) : Type 0 where
+-- The directory's data files hold the base and then this history; nothing of them is pending, and there are no others and no control file.
+pub record IsJournal (wanted : ℕ) (base history : List Placed) (s : Files) : Type 0 where
   pub files : List Segment
-  pub free : List Segment
-  pub is : IsDirectory wanted (length history) (files ++ free) s
-  pub numbered : AreNumbered 1 (files ++ free)
-  pub with_records : length files ≡ last
-  pub many : all ≤ length (files ++ free)
-  pub empty : records_of free ≡ []
-  pub records : history ≡ records_of files
+  pub is : IsClosedDirectory wanted files s
+  pub records : records_of files ≡ base ++ history

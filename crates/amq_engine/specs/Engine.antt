@@ -17,11 +17,11 @@ use Rattle.amq_model.specs.declared.refusal.Refusal.TheVariants as r
 use Rattle.amq_model.specs.RecordAt.{len_of, spelling}
 use Rattle.amq_model.specs.declared.directory.OpenFault.{OpenFault}
 use Rattle.amq_model.specs.declared.directory.OpenFault.TheVariants as o
-use Rattle.amq_model.specs.Calls.{Past, listing, fine, noted, counted}
+use Rattle.amq_model.specs.Calls.{Past, counted}
 use Rattle.amq_model.specs.Files.{Files}
-use Rattle.amq_model.specs.Leaves.{Leaves, Unchanged, AllReads, HoldsSince, Told}
+use Rattle.amq_model.specs.Leaves.{AllReads, HoldsSince}
 use Rattle.amq_model.specs.Answers.{record_of, history_of, limit, too_large, first_some}
-use Rattle.amq_model.specs.Legal.{AreLegal}
+use Rattle.amq_model.specs.Legal.{AreLegalFrom, AreLegal, OpensWith, OpensPartly, rolled_back}
 use Rattle.amq_model.specs.Configs.{IsConfig}
 pub use Rattle.amq_buffer.specs.Buffered.{Buffered, begun, is_due}
 use Rattle.amq_tx.specs.State.{TxState}
@@ -38,7 +38,7 @@ use Rattle.amq_io.specs.declared.faults.DiskFault.{DiskFault}
 use Rattle.amq_io.specs.declared.faults.DiskFault.TheVariants as f
 use Rattle.amq_engine.specs.Lists.{Lists, with_step, with_receipt}
 use Rattle.amq_engine.specs.Receipts.{AreInOrder, IsLastCount, IsCrashSafe}
-use Rattle.amq_engine.specs.Directory.{placed_in, IsEmpty, AreListed, all_files, files_from, StandsNow}
+use Rattle.amq_engine.specs.Directory.{placed_in, AreListed, all_files, StandsNow}
 
 -- ---- the value
 
@@ -193,36 +193,38 @@ pub record Holds (wanted : ℕ) (base : List Placed) (least : ℕ) (history : Li
   pub last : ℕ
   pub one : All (λ p. p.file ≡ last) (drop sure (take put history))
 
--- each receipt is kept: since its moment every reading holds as many records
-abbrev pub AreKept : Option Past → ℕ → ℕ → List Placed → List Receipted → Type 0
-AreKept past wanted durable history [] = Unit {0}
-AreKept past wanted durable history (q ∷ qs) =
-    ((q.durable ≤ durable) × (q.moment < 2 ^ 64 - 1 → HoldsSince past q.moment (Holds wanted [] q.durable history))) × AreKept past wanted durable history qs
+-- each receipt is kept: since its moment every reading holds the base and as many records
+abbrev pub AreKept : Option Past → ℕ → List Placed → ℕ → List Placed → List Receipted → Type 0
+AreKept past wanted base durable history [] = Unit {0}
+AreKept past wanted base durable history (q ∷ qs) =
+    ((q.durable ≤ durable) × (q.moment < 2 ^ 64 - 1 → HoldsSince past q.moment (Holds wanted base q.durable history))) × AreKept past wanted base durable history qs
 
--- the chronicle has the steps of the engine, and its receipts are kept
-pub record IsTold (past : Option Past) (wanted durable : ℕ) (history : List Placed) (steps : List Step) (l : Lists) : Type 0 where
-  pub base : l.base ≡ []
+-- the chronicle has the base and the steps of the engine, and its receipts are kept
+pub record IsTold (past : Option Past) (wanted : ℕ) (known : List Placed) (durable : ℕ) (history : List Placed) (steps : List Step) (l : Lists) : Type 0 where
+  pub base : l.base ≡ known
   pub same : l.steps ≡ steps
-  pub kept : AreKept past wanted durable history l.receipts
+  pub kept : AreKept past wanted known durable history l.receipts
 
 -- the records of the closed files and of the file in use
 abbrev pub records : List Segment → PoolFile → List Item → List Placed
 records closed used items = records_of closed ++ placed_in used.id items
 
--- What is so of the parts of an engine, whatever the disk reads: the steps are legal, and the table is that of the steps; the closed files and the file in use have the history, which goes on in the buffer.
+-- What is so of the parts of an engine, whatever the disk reads: the steps are legal behind the base, and the table is that of both; the old files, which were there at the opening, have the base; those that were closed since then and the file in use have the history, which goes on in the buffer.
 pub record Parts (config : Config) (table : TxState) (pool : PoolOf) (tail : Tail) : Type 0 where
+  pub base : List Placed
+  pub old : List Segment
   pub closed : List Segment
   pub items : List Item
   pub sure : ℕ
   pub steps : List Step
+  pub based : records_of old ≡ base
   pub new : All IsNewItem items
   pub placed : history_of steps ≡ records closed tail.file items
-  pub legal : AreLegal [] steps config
-  pub follows : Follows table [] steps
+  pub each : AreLegalFrom base config [] steps
+  pub follows : Follows table base steps
   pub same_config : pool.config ≡ config
   pub pool_is : IsPool pool
-  pub listed : AreListed pool.highest 1 (all_files closed tail.file pool.prepared)
-  pub numbered : all_files closed tail.file pool.prepared ≡ files_from 1 pool.highest
+  pub listed : AreListed pool.highest 0 (all_files (old ++ closed) tail.file pool.prepared)
   pub numbers : pool.highest ≤ 2 ^ 31 - 1
   pub few : length (records_of closed) ≤ tail.file.id * 268435456
   pub capacity : tail.buffer.capacity ≡ config.buffer_size
@@ -238,14 +240,25 @@ pub record Parts (config : Config) (table : TxState) (pool : PoolOf) (tail : Tai
 -- so it is, and what the disk reads and what the chronicle tells is as the parts say
 pub record IsSound (past : Option Past) (lists : Option Lists) (receipt_room : ℕ) (config : Config) (table : TxState) (pool : PoolOf) (tail : Tail) : Type 0 where
   pub parts : Parts config table pool tail
-  pub reads_now : AllReads past (StandsNow config parts.closed tail.file parts.sure parts.items pool.highest pool.prepared)
+  pub reads_now : AllReads past (StandsNow config (parts.old ++ parts.closed) tail.file parts.sure parts.items pool.highest pool.prepared)
   pub room : (tail.buffer.bytes ≡ [] → ⊥) → 1 ≤ receipt_room
-  pub told : IfSome lists (IsTold past config.user_version tail.durable (records parts.closed tail.file parts.items) parts.steps)
+  pub told : IfSome lists (IsTold past config.user_version parts.base tail.durable (records parts.closed tail.file parts.items) parts.steps)
 
--- the same, with the range of the parameters, and receipts in order, the last of which counts what is durable
-pub record IsValid (past : Option Past) (moment : ℕ) (lists : Option Lists) (receipt_room : ℕ) (config : Config) (table : TxState) (pool : PoolOf) (tail : Tail) : Type 0 where
+-- how far an opening is: it is done, or it appends its rollbacks behind this base, of which there are so many so far
+pub data Stage : Type 0 where
+  opened : Stage
+  rolling : List Placed → ℕ → Stage
+
+-- so far its steps are there: all of them, and then those of other seats; or so many of them, each of which was appended, and no other step
+abbrev pub HasOpened : Stage → List Placed → List Step → Type 0
+HasOpened opened base steps = OpensWith 1 (rolled_back base) steps
+HasOpened (rolling known n) base steps = (base ≡ known) × (length steps ≡ n) × OpensPartly 1 (rolled_back base) steps × (length (history_of steps) ≡ n)
+
+-- the same, with the range of the parameters, the steps of the opening, and receipts in order, the last of which counts what is durable
+pub record IsValid (stage : Stage) (past : Option Past) (moment : ℕ) (lists : Option Lists) (receipt_room : ℕ) (config : Config) (table : TxState) (pool : PoolOf) (tail : Tail) : Type 0 where
   pub sound : IsSound past lists receipt_room config table pool tail
   pub ranges : IsConfig config
+  pub opening : HasOpened stage sound.parts.base sound.parts.steps
   pub order : IfSome lists (λ l. AreInOrder moment l.receipts)
   pub last : IfSome lists (λ l. IsLastCount tail.durable l.receipts)
 
@@ -423,19 +436,9 @@ HasCause _ old new = Unit {0}
 
 -- ---- opening
 
--- the lists of an opening that has begun: nothing was there, nothing is done, and one receipt of nothing
-pub record AreBegun (moment : ℕ) (l : Lists) : Type 0 where
-  pub base : l.base ≡ []
-  pub steps : l.steps ≡ []
-  pub receipts : l.receipts ≡ record { durable = 0; moment = moment } ∷ []
-
 -- nothing is told yet
 abbrev pub IsBlank : Lists → Type 0
 IsBlank l = (l.base ≡ []) × (l.steps ≡ []) × (l.receipts ≡ [])
-
--- How far an opening came: it only asked what is there, or it noted the receipt of nothing behind its first call.
-abbrev pub HasCome : ℕ → Option Past → Option Past → Lists → Type 0
-HasCome moment old new l = ((l.receipts ≡ []) × Leaves Unchanged Unchanged old new) ⊎ AreBegun (counted moment) l
 
 -- a refusal of a flush or a tick: since the engine is closed, for a disk call, or for want of memory
 abbrev pub IsFlushRefusal : Refusal → Type 0
@@ -453,18 +456,6 @@ fault_refusal f.NoMemory = r.NoMemory
 abbrev pub closed_by : DiskFault → Option DiskCall → Option DiskCall
 closed_by (f.Disk call) closed = Some call
 closed_by f.NoMemory closed = closed
-
--- what an opening that failed leaves in the chronicle: no base and no step
-abbrev pub IsUnopened : Lists → Type 0
-IsUnopened l = (l.base ≡ []) × (l.steps ≡ [])
-
--- why an opening failed: a file was there, which only the list was asked for; a disk call; or want of memory
-abbrev pub HasOpenCause : OpenFault → Option Past → Option Past → Faults → Faults → Type 0
-HasOpenCause o.NotBuilt old new was now = (new ≡ option_map (noted listing fine) old) × Told old (λ s. IsEmpty s → ⊥)
-HasOpenCause (o.Disk call) old new was now = Rose was.0 now.0 × (now.1 ≡ Some call)
-HasOpenCause o.NoMemory old new was now = Unit {0}
-HasOpenCause (o.Directory fault) old new was now = ⊥
-HasOpenCause (o.FileIdsSpent highest) old new was now = ⊥
 
 -- a disk's fault, as that of an opening
 abbrev pub open_fault : DiskFault → OpenFault

@@ -4,3 +4,4 @@ pub mod Directory
 pub mod Puts
 pub mod Receipts
 pub mod Engine
+pub mod Opening

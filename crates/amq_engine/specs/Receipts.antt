@@ -2,7 +2,9 @@
 use Rattle.std.specs.Prelude.{◌≡◌, ℕ, ◌+◌, ◌-◌, ◌^◌, ◌<◌, ◌≤◌, List, [], ◌∷◌, length, Option, All}
 use Rattle.amq_model.specs.Answers.{history_of}
 use Rattle.amq_model.specs.Calls.{Past}
+use Rattle.amq_model.specs.Files.{Files}
 use Rattle.amq_model.specs.Headline.{RecoversSince}
+use Rattle.amq_model.specs.Leaves.{Leaves, Syncs, OnlySyncsUntil}
 use Rattle.amq_engine.specs.declared.chronicle.Receipted.{Receipted}
 use Rattle.amq_engine.specs.Lists.{Lists}
 
@@ -41,3 +43,20 @@ pub record IsCrashSafe (past : Option Past) (moment wanted : ℕ) (l : Lists) : 
   pub recovers : IsRecovered past wanted l
   pub counted : All (λ r. r.durable ≤ length (history_of l.steps)) l.receipts
   pub receipts : AreInOrder moment l.receipts
+
+-- whatever calls do
+abbrev pub Anything : Files → Files → Type 0
+Anything o s = Unit {0}
+
+-- the calls of the disk go on
+abbrev pub GoesOn : Option Past → Option Past → Type 0
+GoesOn old new = Leaves Anything Anything old new
+
+-- the chronicle's first receipt is this one
+abbrev pub StartsWith : Receipted → Lists → Type 0
+StartsWith r l = (rs : List Receipted) × (l.receipts ≡ r ∷ rs)
+
+-- Up to the first receipt, or to the end where there is none, the disk was only asked and synced.
+abbrev pub BeginsBySyncs : List Receipted → Option Past → Option Past → Type 0
+BeginsBySyncs [] old new = Leaves Syncs Syncs old new
+BeginsBySyncs (r ∷ rs) old new = OnlySyncsUntil r.moment old new

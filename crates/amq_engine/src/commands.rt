@@ -1,12 +1,13 @@
 //! Commands: their records, and what refuses them.
-ghost use Rattle.std.specs.Prelude.{◌≡◌, ◌^◌, ◌<◌, ◌≤◌, [], List, IfOk, IfSome, OnOk, option_map};
+ghost use Rattle.std.specs.Prelude.{◌≡◌, ◌^◌, ◌<◌, ◌≤◌, ◌++◌, List, IfOk, IfSome, OnOk, option_map};
+ghost use Rattle.amq_model.specs.declared.record.Placed.{Placed};
 ghost use Rattle.amq_model.specs.declared.history.Step.{Step};
 ghost use Rattle.amq_model.specs.RecordAt.{len_of, IsRecord, IsBytes};
 ghost use Rattle.amq_model.specs.Answers.{record_of, history_of};
 ghost use Rattle.amq_model.specs.Legal.{number_for};
 ghost use Rattle.amq_tx.specs.Tables.{state_of, HasRoom};
 ghost use Rattle.amq_tx.specs.Refusing.{refusal_in};
-ghost use Rattle.amq_tx.specs.Follows.{Follows};
+ghost use Rattle.amq_tx.specs.Follows.{Follows, AreBelow};
 ghost use Rattle.amq_pool.specs.Pools.{ids_of};
 ghost use Rattle.amq_engine.specs.Engine.{IsCommandRefusal, refused, record_len, too_long, spent};
 
@@ -102,7 +103,7 @@ pub fn numbered(
     rec: Option<Record>,
 ) -> Option<Record>
     requires record { rec ≡ record_of command.now 0 }
-    ensures record { (steps : List Step) → Follows (state_of table.now) [] steps → result ≡ record_of command.now (number_for (history_of steps) command.now file) }
+    ensures record { (base : List Placed) (steps : List Step) → Follows (state_of table.now) base steps → AreBelow file base → result ≡ record_of command.now (number_for (base ++ history_of steps) command.now file) }
     ensures length { option_map len_of result ≡ option_map len_of rec }
     ensures values { IfSome rec IsRecord → IfSome result IsRecord }
 {
@@ -170,6 +171,25 @@ pub fn number_refusal(pool: &Pool, moves: bool) -> Option<Refusal>
     None
 }
 
+/// Makes all the room that a command takes, but that in the buffer and for its record.
+///
+/// After `NoMemory` the chronicle's lists and what the table tells are as they were.
+pub fn make_room<C: Chronicle>(
+    chronicle: &mut C,
+    table: &mut TxTable,
+    command: &Command,
+) -> Result<(), NoMemory>
+    ensures lists { C.lists chronicle.new ≡ C.lists chronicle.old }
+    ensures step { OnOk result (1 ≤ C.step_room chronicle.new) }
+    ensures receipts { OnOk result (2 ≤ C.receipt_room chronicle.new) }
+    ensures room { C.receipt_room chronicle.old ≤ C.receipt_room chronicle.new }
+    ensures table { state_of table.new ≡ state_of table.old }
+    ensures reserved { OnOk result (HasRoom table.new command.now) }
+{
+    chronicle.room()?;
+    table.reserve(command)
+}
+
 /// Makes all the room that a command takes, but that in the buffer, and its record.
 ///
 /// After `NoMemory` the chronicle's lists and what the table tells are as they were.
@@ -189,7 +209,6 @@ pub fn room_for<C: Chronicle>(
     ensures length { IfOk result (λ rec. option_map len_of rec ≡ record_len command.now) }
     ensures values { IfOk result (λ rec. IfSome rec (λ rec. len_of rec < 2 ^ 31 → IsRecord rec)) }
 {
-    chronicle.room()?;
-    table.reserve(command)?;
+    make_room(chronicle, table, command)?;
     record_for(alloc, command)
 }

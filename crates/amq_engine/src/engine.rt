@@ -3,24 +3,24 @@ ghost use Rattle.std.specs.Prelude.{◌≡◌, ◌⊎◌, ◌↔◌, ◌+◌, �
 ghost use Rattle.amq_model.specs.Configs.{IsConfig};
 ghost use Rattle.amq_model.specs.Calls.{counted};
 ghost use Rattle.amq_model.specs.Leaves.{Told};
+ghost use Rattle.amq_model.specs.Effect.{result_of};
+ghost use Rattle.amq_model.specs.Legal.{AreLegalOfRefused};
 ghost use Rattle.amq_model.specs.declared.refusal.DiskCall.{DiskCall};
-ghost use Rattle.amq_model.specs.Answers.{history_of};
+ghost use Rattle.amq_model.specs.Answers.{history_of, refusal};
 ghost use Rattle.amq_buffer.specs.Buffered.{is_due};
-ghost use Rattle.amq_pool.specs.Pools.{ids_of};
-ghost use Rattle.amq_engine.specs.Directory.{IsEmpty, IsJournal, files_from};
-ghost use Rattle.amq_engine.specs.Receipts.{IsCrashSafe};
-ghost use Rattle.amq_engine.specs.Engine.{Notes, IsCommandAnswer, IsCommandRefusal, IsChronicle, IsBlank, IsUnopened, AreBegun, HasCome, HasOpenCause, HasCause, IsFlushRefusal, closed_after, durable_after, fault_refusal, closed_by, receipted, IsReply, prepares, asks_disk, flushed, behind_command, BehindRefused, behind_tick, must_flush, at_clock};
+ghost use Rattle.amq_loader.specs.Loads.{IsStateOf, IsTidy};
+ghost use Rattle.amq_engine.specs.Directory.{IsJournal};
+ghost use Rattle.amq_engine.specs.Opening.{HasBase, AreRolledBack, IsFilled, HasOpenCause};
+ghost use Rattle.amq_engine.specs.Receipts.{IsCrashSafe, GoesOn, BeginsBySyncs};
+ghost use Rattle.amq_engine.specs.Engine.{Notes, IsCommandAnswer, IsCommandRefusal, IsChronicle, IsBlank, HasCause, IsFlushRefusal, closed_after, durable_after, fault_refusal, closed_by, receipted, IsReply, prepares, asks_disk, flushed, behind_command, BehindRefused, behind_tick, must_flush, at_clock};
 
 use crate::chronicle::Chronicle;
 use crate::commands::{numbered, refusal_of, room_for};
-use crate::moving::{FIRST_PLACE, fill_pool, passes, ready};
-use crate::opening::{begin, fault_of};
+use crate::moving::{passes, ready};
+use crate::starting::{Started, start};
 use crate::tail::{Tail, put_record, write_out};
-use amq_buffer::TimedBuffer;
 use amq_io::{Disk, DiskFault};
-use amq_model::{
-    Answer, Command, Config, DiskCall, Items, LoadState, OpenFault, Refusal, Reply, Step,
-};
+use amq_model::{Answer, Command, Config, DiskCall, LoadState, OpenFault, Refusal, Reply, Step};
 use amq_pool::Pool;
 use amq_tx::TxTable;
 use std::alloc::Global;
@@ -47,7 +47,7 @@ impl<D: Disk, C: Chronicle> Model for Engine<D, C> {
     ghost use Rattle.std.specs.Prelude.{length};
     ghost use Rattle.amq_tx.specs.Tables.{state_of};
     ghost use Rattle.amq_pool.specs.Pools.{ids_of};
-    ghost use Rattle.amq_engine.specs.Engine.{EngineOf, engine_code, end_of_tail, IsValid};
+    ghost use Rattle.amq_engine.specs.Engine.{EngineOf, engine_code, end_of_tail, opened, IsValid};
 
     ghost Value = { EngineOf D C };
 
@@ -55,7 +55,7 @@ impl<D: Disk, C: Chronicle> Model for Engine<D, C> {
 
     ghost view = { λ e. record { disk = e.disk; chronicle = e.chronicle; config = e.config; appended = e.tail.appended; durable = e.tail.durable; waiting = length e.tail.buffer.bytes; since = e.tail.buffer.since; file = e.tail.file.id; end = end_of_tail e.tail; highest = e.pool.highest; free = ids_of e.pool.prepared; clock = e.clock; closed = e.closed } };
 
-    ghost invariant = { λ e. IsValid (D.past e.disk) (D.moment e.disk) (C.lists e.chronicle) (C.receipt_room e.chronicle) e.config (state_of e.table) e.pool e.tail };
+    ghost invariant = { λ e. IsValid opened (D.past e.disk) (D.moment e.disk) (C.lists e.chronicle) (C.receipt_room e.chronicle) e.config (state_of e.table) e.pool e.tail };
 }
 
 /// Why a journal wasn't opened, with its disk and its chronicle.
@@ -88,14 +88,18 @@ impl<D: Disk, C: Chronicle> Engine<D, C> {
         self.tail.file.id
     }
 
-    /// Opens a journal in an empty directory.
+    /// Opens a journal in a directory.
     ///
-    /// It begins the first file, and prepares further ones until there are `min_files`.
+    /// It loads, and makes every data file durable; from then on the receipt of nothing stands. It removes
+    /// what earlier openings left unfinished, begins a new file, and appends, as seat 0, a ROLLBACK for
+    /// each transaction that has a record, no end and no sound PREPARE, ascending by number. Then it
+    /// flushes, and prepares files until there are `min_files` with the file in use and the closed ones.
+    /// Transactions in doubt stay open and prepared. What it loaded is handed back with the engine.
     ///
     /// # Errors
     ///
-    /// `NotBuilt` where the directory has a file, `Disk` and `NoMemory`. The directory can be opened
-    /// again with an empty chronicle.
+    /// `Directory` and `NotBuilt`, where the directory is unchanged, `FileIdsSpent`, `Disk` and
+    /// `NoMemory`. The directory can be opened again with an empty chronicle.
     pub fn open_on(
         alloc: Global,
         mut disk: D,
@@ -104,83 +108,56 @@ impl<D: Disk, C: Chronicle> Engine<D, C> {
     ) -> Result<(Engine<D, C>, LoadState), OpenFailed<D, C>>
         requires config { IsConfig config }
         requires blank { IfSome (C.lists chronicle) IsBlank }
-        ensures opened { IfOk result (λ e. (e.0.config ≡ config) × (e.0.appended ≡ 0) × (e.0.durable ≡ 0) × (e.0.waiting ≡ 0) × (e.0.since ≡ None) × (e.0.clock ≡ 0) × (e.0.closed ≡ None)) }
-        ensures files { IfOk result (λ e. (e.0.file ≡ 1) × (e.0.end ≡ 16) × (e.0.highest ≡ config.min_files) × (e.0.free ≡ ids_of (files_from 2 (config.min_files - 1)))) }
-        ensures content { IfOk result (λ e. Told (D.past e.0.disk) (IsJournal config.user_version 1 config.min_files [])) }
-        ensures state { IfOk result (λ e. e.1 ≡ record { live = []; in_doubt = [] }) }
-        ensures lists { IfOk result (λ e. IfSome (C.lists e.0.chronicle) (AreBegun (counted (D.moment disk)))) }
-        ensures empty { OnOk result (Told (D.past disk) IsEmpty) }
+        ensures opened { IfOk result (λ e. (e.0.config ≡ config) × (e.0.durable ≡ e.0.appended) × (e.0.waiting ≡ 0) × (e.0.since ≡ None) × (e.0.clock ≡ 0) × (e.0.closed ≡ None)) }
+        ensures base { IfOk result (λ e. IfSome (C.lists e.0.chronicle) (λ l. Told (D.past disk) (HasBase config.user_version l.base))) }
+        ensures state { IfOk result (λ e. IfSome (C.lists e.0.chronicle) (λ l. e.1 ≡ result_of l.base)) }
+        ensures tidy { IfOk result (λ e. Told (D.past e.0.disk) IsTidy) }
+        ensures loaded { IfOk result (λ e. Told (D.past disk) (IsStateOf config.user_version e.1)) }
+        ensures rolled { IfOk result (λ e. IfSome (C.lists e.0.chronicle) (λ l. AreRolledBack l.base l.steps)) }
+        ensures files { IfOk result (λ e. IfSome (C.lists e.0.chronicle) (λ l. Told (D.past disk) (IsFilled config (history_of l.steps) e.0.file e.0.end e.0.highest e.0.free))) }
+        ensures content { IfOk result (λ e. IfSome (C.lists e.0.chronicle) (λ l. Told (D.past e.0.disk) (IsJournal config.user_version l.base (history_of l.steps)))) }
         ensures later { IfOk result (λ e. (D.faults disk).0 ≤ (D.faults e.0.disk).0) }
-        ensures unopened { IfErr result (λ e. IfSome (C.lists e.chronicle) IsUnopened) }
-        ensures cause { IfErr result (λ e. HasOpenCause e.fault (D.past disk) (D.past e.disk) (D.faults disk) (D.faults e.disk)) }
+        ensures failed { IfOk result (λ e. (D.faults e.0.disk).1 ≡ (D.faults disk).1) }
+        ensures cause { IfErr result (λ e. HasOpenCause config e.fault (C.lists e.chronicle) (D.past disk) (D.past e.disk) (D.faults disk) (D.faults e.disk)) }
         ensures failed_later { IfErr result (λ e. (D.faults disk).0 ≤ (D.faults e.disk).0) }
+        ensures failed_legal { IfErr result (λ e. IfSome (C.lists e.chronicle) (λ l. AreLegalOfRefused l.base l.steps config)) }
+        ensures failed_appended { IfErr result (λ e. IfSome (C.lists e.chronicle) (λ l. length (history_of l.steps) ≡ length l.steps)) }
 
-        // Each receipt is kept, also where the opening failed behind the first.
+        // Each receipt is kept, also where the opening failed behind the first; before it, nothing new is left.
         ensures failed_safe { IfErr result (λ e. IfSome (C.lists e.chronicle) (IsCrashSafe (D.past e.disk) (D.moment e.disk) config.user_version)) }
-        ensures failed_empty { IfErr result (λ e. IfSome (C.lists e.chronicle) (λ l. (l.receipts ≡ []) ⊎ Told (D.past disk) IsEmpty)) }
-        ensures chronicle { IfOk result (λ e. IfSome (C.lists e.0.chronicle) (IsChronicle (D.past e.0.disk) (D.moment e.0.disk) config 0 0)) }
-        ensures come { IfOk result (λ e. IfSome (C.lists e.0.chronicle) (HasCome (D.moment disk) (D.past disk) (D.past e.0.disk))) }
-        ensures failed_come { IfErr result (λ e. IfSome (C.lists e.chronicle) (HasCome (D.moment disk) (D.past disk) (D.past e.disk))) }
+        ensures failed_base { IfErr result (λ e. IfSome (C.lists e.chronicle) (λ l. IsBlank l ⊎ Told (D.past disk) (HasBase config.user_version l.base))) }
+        ensures begins { IfOk result (λ e. IfSome (C.lists e.0.chronicle) (λ l. BeginsBySyncs l.receipts (D.past disk) (D.past e.0.disk))) }
+        ensures failed_begins { IfErr result (λ e. IfSome (C.lists e.chronicle) (λ l. BeginsBySyncs l.receipts (D.past disk) (D.past e.disk))) }
+        ensures chronicle { IfOk result (λ e. IfSome (C.lists e.0.chronicle) (IsChronicle (D.past e.0.disk) (D.moment e.0.disk) config e.0.appended e.0.durable)) }
     {
-        let table = match TxTable::new(alloc, Vec::new(alloc), Vec::new(alloc), 0) {
-            Ok(table) => table,
-            Err(_) => {
-                return Err(OpenFailed {
+        match start(alloc, &mut disk, &mut chronicle, &config) {
+            Ok(
+                Started {
+                    table,
+                    pool,
+                    tail,
+                    state,
+                },
+            ) => {
+                let engine = Engine {
+                    alloc,
                     disk,
                     chronicle,
-                    fault: OpenFault::NoMemory,
-                });
+                    config,
+                    table,
+                    pool,
+                    tail,
+                    clock: 0,
+                    closed: None,
+                };
+                Ok((engine, state))
             }
-        };
-        let buffer = match TimedBuffer::new(alloc, config.buffer_size, config.buffer_timeout) {
-            Ok(buffer) => buffer,
-            Err(_) => {
-                return Err(OpenFailed {
-                    disk,
-                    chronicle,
-                    fault: OpenFault::NoMemory,
-                });
-            }
-        };
-        let (mut pool, file) = match begin(alloc, &mut disk, &mut chronicle, &config) {
-            Ok(begun) => begun,
-            Err(fault) => {
-                return Err(OpenFailed {
-                    disk,
-                    chronicle,
-                    fault,
-                });
-            }
-        };
-        if let Err(fault) = fill_pool(&mut disk, &mut pool, config.min_files) {
-            return Err(OpenFailed {
+            Err(fault) => Err(OpenFailed {
                 disk,
                 chronicle,
-                fault: fault_of(fault),
-            });
+                fault,
+            }),
         }
-        let state = LoadState {
-            live: Items::of(Vec::new(alloc)),
-            in_doubt: Items::of(Vec::new(alloc)),
-        };
-        let engine = Engine {
-            alloc,
-            disk,
-            chronicle,
-            config,
-            table,
-            pool,
-            tail: Tail {
-                file,
-                buffer,
-                end: FIRST_PLACE,
-                appended: 0,
-                durable: 0,
-            },
-            clock: 0,
-            closed: None,
-        };
-        Ok((engine, state))
     }
 
     /// Answers a command.
@@ -204,11 +181,14 @@ impl<D: Disk, C: Chronicle> Engine<D, C> {
         ensures spent { (highest : ℕ) → result ≡ Err (Refusal.FileIdsSpent highest) → (highest ≡ self.old.highest) × (highest ≡ 2 ^ 31 - 1) × (prepares self.old command ≡ true) }
         ensures numbers { OnOk result (prepares self.old command ≡ true → self.old.highest < 2 ^ 31 - 1) }
         ensures idle { (asks_disk self.old command ≡ false) ⊎ IsSome self.old.closed → self.new.disk ≡ self.old.disk }
+        ensures unasked { IfSome (C.lists self.old.chronicle) (λ l. IsSome (refusal l.base l.steps self.old.config command) → self.new.disk ≡ self.old.disk) }
         ensures spared { prepares self.old command ≡ true → 2 ^ 31 - 1 ≤ self.old.highest → self.new.disk ≡ self.old.disk }
         ensures calls { D.moment self.new.disk ≤ D.moment self.old.disk + (if prepares self.old command then 6 else 2) }
         ensures closed { (call : DiskCall) → (result ≡ Err (Refusal.Closed call)) ↔ (self.old.closed ≡ Some call) }
         ensures cause { HasCause result (D.faults self.old.disk) (D.faults self.new.disk) }
+        ensures failed { closed_after result None ≡ None → (D.faults self.new.disk).1 ≡ (D.faults self.old.disk).1 }
         ensures later { (D.faults self.old.disk).0 ≤ (D.faults self.new.disk).0 }
+        ensures goes_on { GoesOn (D.past self.old.disk) (D.past self.new.disk) }
         ensures chronicle { IfSome (C.lists self.new.chronicle) (IsChronicle (D.past self.new.disk) (D.moment self.new.disk) self.new.config self.new.appended self.new.durable) }
     {
         if let Some(fault) = self.closed {
@@ -275,7 +255,9 @@ impl<D: Disk, C: Chronicle> Engine<D, C> {
         ensures calls { D.moment self.new.disk ≤ D.moment self.old.disk + 2 }
         ensures closed { (call : DiskCall) → (result ≡ Err (Refusal.Closed call)) ↔ (self.old.closed ≡ Some call) }
         ensures cause { HasCause result (D.faults self.old.disk) (D.faults self.new.disk) }
+        ensures failed { closed_after result None ≡ None → (D.faults self.new.disk).1 ≡ (D.faults self.old.disk).1 }
         ensures later { (D.faults self.old.disk).0 ≤ (D.faults self.new.disk).0 }
+        ensures goes_on { GoesOn (D.past self.old.disk) (D.past self.new.disk) }
         ensures chronicle { IfSome (C.lists self.new.chronicle) (IsChronicle (D.past self.new.disk) (D.moment self.new.disk) self.new.config self.new.appended self.new.durable) }
     {
         if let Some(fault) = self.closed {
@@ -301,7 +283,9 @@ impl<D: Disk, C: Chronicle> Engine<D, C> {
         ensures calls { D.moment self.new.disk ≤ D.moment self.old.disk + 2 }
         ensures closed { (call : DiskCall) → (result ≡ Err (Refusal.Closed call)) ↔ (self.old.closed ≡ Some call) }
         ensures cause { HasCause result (D.faults self.old.disk) (D.faults self.new.disk) }
+        ensures failed { closed_after result None ≡ None → (D.faults self.new.disk).1 ≡ (D.faults self.old.disk).1 }
         ensures later { (D.faults self.old.disk).0 ≤ (D.faults self.new.disk).0 }
+        ensures goes_on { GoesOn (D.past self.old.disk) (D.past self.new.disk) }
         ensures chronicle { IfSome (C.lists self.new.chronicle) (IsChronicle (D.past self.new.disk) (D.moment self.new.disk) self.new.config self.new.appended self.new.durable) }
     {
         if let Some(fault) = self.closed {
@@ -324,8 +308,10 @@ impl<D: Disk, C: Chronicle> Engine<D, C> {
         ensures calls { D.moment result.0 ≤ D.moment self.disk + 2 }
         ensures closed { (call : DiskCall) → (result.2 ≡ Err (Refusal.Closed call)) ↔ (self.closed ≡ Some call) }
         ensures cause { HasCause result.2 (D.faults self.disk) (D.faults result.0) }
+        ensures failed { closed_after result.2 None ≡ None → (D.faults result.0).1 ≡ (D.faults self.disk).1 }
         ensures later { (D.faults self.disk).0 ≤ (D.faults result.0).0 }
-        ensures content { OnOk result.2 (IfSome (C.lists result.1) (λ l. Told (D.past result.0) (IsJournal self.config.user_version self.file self.highest (history_of l.steps)))) }
+        ensures goes_on { GoesOn (D.past self.disk) (D.past result.0) }
+        ensures content { OnOk result.2 (IfSome (C.lists result.1) (λ l. Told (D.past result.0) (IsJournal self.config.user_version l.base (history_of l.steps)))) }
         ensures chronicle { IfSome (C.lists result.1) (IsChronicle (D.past result.0) (D.moment result.0) self.config self.appended (durable_after result.2 self.durable)) }
     {
         let outcome = self.flush();

@@ -15,6 +15,8 @@ mod log;
 mod moving;
 mod opening;
 mod put;
+mod rolling;
+mod starting;
 mod tail;
 
 pub use chronicle::{Chronicle, Kept, Receipted, Unkept};

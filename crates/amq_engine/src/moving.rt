@@ -1,5 +1,5 @@
 //! Going on to further files.
-ghost use Rattle.std.specs.Prelude.{◌≡◌, ◌⊎◌, ◌+◌, ◌-◌, ◌^◌, ◌<◌, ◌≤◌, ℕ, Bool, true, false, ◌&&◌, ◌||◌, not, is_ok, is_some, if◌then◌else◌, [], length, Option, None, option_map, OnOk, OnErr};
+ghost use Rattle.std.specs.Prelude.{◌≡◌, ◌⊎◌, ◌+◌, ◌-◌, ◌^◌, ◌<◌, ◌≤◌, ℕ, min, Bool, true, false, ◌&&◌, ◌||◌, not, is_ok, is_some, if◌then◌else◌, [], length, Option, None, option_map, OnOk, OnErr};
 ghost use Rattle.amq_model.specs.declared.config.Config.{Config};
 ghost use Rattle.amq_model.specs.RecordAt.{len_of};
 ghost use Rattle.amq_model.specs.Calls.{counted};
@@ -7,9 +7,11 @@ ghost use Rattle.amq_model.specs.Leaves.{Told, IsThere, IsWithin};
 ghost use Rattle.amq_io.specs.Faults.{HasFault};
 ghost use Rattle.amq_tx.specs.State.{TxState};
 ghost use Rattle.amq_pool.specs.Pools.{with_next};
+ghost use Rattle.amq_loader.specs.Loads.{IsTidy};
 ghost use Rattle.amq_engine.specs.declared.tail.Tail.{Tail};
 ghost use Rattle.amq_engine.specs.Lists.{Lists};
-ghost use Rattle.amq_engine.specs.Engine.{IsValid, end_of_tail, passes, flushes, record_len, written_out, next_file, without_next, gone_on, readied, pool_readied, receipted, Waits, Wrote, with_files, is_nil};
+ghost use Rattle.amq_engine.specs.Receipts.{GoesOn};
+ghost use Rattle.amq_engine.specs.Engine.{Stage, IsValid, end_of_tail, passes, flushes, record_len, written_out, next_file, without_next, gone_on, readied, pool_readied, receipted, Waits, Wrote, with_files, is_nil};
 
 use crate::chronicle::Chronicle;
 use crate::tail::{Tail, write_out};
@@ -39,14 +41,16 @@ pub fn passes(file_size: u64, end: u64, rec: &Option<Record>) -> bool
 /// Prepares one file, in four disk calls.
 pub fn prepare<D: Disk>(disk: &mut D, pool: &mut Pool) -> Result<(), DiskFault>
     requires number { pool.old.highest < 2 ^ 31 - 1 }
-    ensures valid { (lists : Option Lists) (room : ℕ) (config : Config) (table : TxState) (tail : Tail)
-        → IsValid (D.past disk.old) (D.moment disk.old) lists room config table pool.old tail
-        → IsValid (D.past disk.new) (D.moment disk.new) lists room config table pool.new tail }
+    ensures valid { (stage : Stage) (lists : Option Lists) (room : ℕ) (config : Config) (table : TxState) (tail : Tail)
+        → IsValid stage (D.past disk.old) (D.moment disk.old) lists room config table pool.old tail
+        → IsValid stage (D.past disk.new) (D.moment disk.new) lists room config table pool.new tail }
     ensures prepared { OnOk result (pool.new ≡ with_next pool.old) }
     ensures unchanged { OnErr result (pool.new ≡ pool.old) }
     ensures cause { HasFault result (D.faults disk.old) (D.faults disk.new) }
     ensures calls { D.moment disk.new ≤ D.moment disk.old + 4 }
     ensures later { D.moment disk.old ≤ D.moment disk.new }
+    ensures goes_on { GoesOn (D.past disk.old) (D.past disk.new) }
+    ensures tidy { OnOk result (Told (D.past disk.old) IsTidy → Told (D.past disk.new) IsTidy) }
 {
     match pool.prepare_step(disk) {
         Ok(()) => Ok(()),
@@ -68,9 +72,9 @@ pub fn go_on<D: Disk, C: Chronicle>(
     requires size { end_of_tail tail.old ≤ 268435456 }
     requires room { (tail.old.buffer.bytes ≡ [] → ⊥) → 1 ≤ C.receipt_room chronicle.old }
     requires number { pool.old.prepared ≡ [] → pool.old.highest < 2 ^ 31 - 1 }
-    ensures valid { (config : Config) (table : TxState)
-        → IsValid (D.past disk.old) (D.moment disk.old) (C.lists chronicle.old) (C.receipt_room chronicle.old) config table pool.old tail.old
-        → IsValid (D.past disk.new) (D.moment disk.new) (C.lists chronicle.new) (C.receipt_room chronicle.new) config table pool.new tail.new }
+    ensures valid { (stage : Stage) (config : Config) (table : TxState)
+        → IsValid stage (D.past disk.old) (D.moment disk.old) (C.lists chronicle.old) (C.receipt_room chronicle.old) config table pool.old tail.old
+        → IsValid stage (D.past disk.new) (D.moment disk.new) (C.lists chronicle.new) (C.receipt_room chronicle.new) config table pool.new tail.new }
     ensures ok { OnOk result (tail.new ≡ gone_on (next_file pool.old) (written_out tail.old)) }
     ensures pool { OnOk result (pool.new ≡ without_next pool.old) }
     ensures err { OnErr result (Waits tail.old (C.lists chronicle.old) tail.new (C.lists chronicle.new) ⊎ ((pool.old.prepared ≡ []) × Wrote (D.moment disk.old) tail.old (C.lists chronicle.old) tail.new (C.lists chronicle.new))) }
@@ -81,6 +85,9 @@ pub fn go_on<D: Disk, C: Chronicle>(
     ensures idle { tail.old.buffer.since ≡ None → (pool.old.prepared ≡ [] → ⊥) → disk.new ≡ disk.old }
     ensures cause { HasFault result (D.faults disk.old) (D.faults disk.new) }
     ensures calls { D.moment disk.new ≤ D.moment disk.old + (if is_nil pool.old.prepared then 6 else 2) }
+    ensures later { D.moment disk.old ≤ D.moment disk.new }
+    ensures goes_on { GoesOn (D.past disk.old) (D.past disk.new) }
+    ensures tidy { OnOk result (Told (D.past disk.old) IsTidy → Told (D.past disk.new) IsTidy) }
 {
     write_out(disk, chronicle, tail)?;
     if pool.free_count() == 0 {
@@ -111,9 +118,9 @@ pub fn ready<D: Disk, C: Chronicle>(
     requires size { end_of_tail tail.old ≤ 268435456 }
     requires room { (tail.old.buffer.bytes ≡ [] → ⊥) → 1 ≤ C.receipt_room chronicle.old }
     requires number { moves ≡ true → pool.old.prepared ≡ [] → pool.old.highest < 2 ^ 31 - 1 }
-    ensures valid { (config : Config) (table : TxState)
-        → IsValid (D.past disk.old) (D.moment disk.old) (C.lists chronicle.old) (C.receipt_room chronicle.old) config table pool.old tail.old
-        → IsValid (D.past disk.new) (D.moment disk.new) (C.lists chronicle.new) (C.receipt_room chronicle.new) config table pool.new tail.new }
+    ensures valid { (stage : Stage) (config : Config) (table : TxState)
+        → IsValid stage (D.past disk.old) (D.moment disk.old) (C.lists chronicle.old) (C.receipt_room chronicle.old) config table pool.old tail.old
+        → IsValid stage (D.past disk.new) (D.moment disk.new) (C.lists chronicle.new) (C.receipt_room chronicle.new) config table pool.new tail.new }
     ensures ok { OnOk result (tail.new ≡ readied moves (flushes tail.old.buffer.capacity (length tail.old.buffer.bytes) command.now) pool.old tail.old) }
     ensures pool { OnOk result (pool.new ≡ pool_readied moves pool.old) }
     ensures err { OnErr result (Waits tail.old (C.lists chronicle.old) tail.new (C.lists chronicle.new) ⊎ ((moves ≡ true) × (pool.old.prepared ≡ []) × Wrote (D.moment disk.old) tail.old (C.lists chronicle.old) tail.new (C.lists chronicle.new))) }
@@ -124,6 +131,9 @@ pub fn ready<D: Disk, C: Chronicle>(
     ensures idle { (moves || flushes tail.old.buffer.capacity (length tail.old.buffer.bytes) command.now) && is_some tail.old.buffer.since ≡ false → moves && is_nil pool.old.prepared ≡ false → disk.new ≡ disk.old }
     ensures cause { HasFault result (D.faults disk.old) (D.faults disk.new) }
     ensures calls { D.moment disk.new ≤ D.moment disk.old + (if moves && is_nil pool.old.prepared then 6 else 2) }
+    ensures later { D.moment disk.old ≤ D.moment disk.new }
+    ensures goes_on { GoesOn (D.past disk.old) (D.past disk.new) }
+    ensures tidy { OnOk result (Told (D.past disk.old) IsTidy → Told (D.past disk.new) IsTidy) }
 {
     if moves {
         go_on(disk, chronicle, pool, tail)
@@ -146,17 +156,25 @@ fn writes_first(buffer: &TimedBuffer, command: &Command, rec: &Option<Record>) -
     }
 }
 
-/// Prepares files until there are so many with the file in use.
-pub fn fill_pool<D: Disk>(disk: &mut D, pool: &mut Pool, min_files: u32) -> Result<(), DiskFault>
-    requires some { 1 ≤ min_files }
-    requires numbers { pool.old.highest + min_files ≤ 2 ^ 31 - 1 }
-    ensures valid { (lists : Option Lists) (room : ℕ) (config : Config) (table : TxState) (tail : Tail)
-        → IsValid (D.past disk.old) (D.moment disk.old) lists room config table pool.old tail
-        → IsValid (D.past disk.new) (D.moment disk.new) lists room config table pool.new tail }
-    ensures filled { OnOk result (pool.new ≡ with_files (min_files - 1) pool.old) }
+/// Prepares files until there are so many with these, or the numbers of files are spent.
+pub fn fill_pool<D: Disk>(
+    disk: &mut D,
+    pool: &mut Pool,
+    files: u64,
+    min_files: u32,
+) -> Result<(), DiskFault>
+    ensures valid { (stage : Stage) (lists : Option Lists) (room : ℕ) (config : Config) (table : TxState) (tail : Tail)
+        → IsValid stage (D.past disk.old) (D.moment disk.old) lists room config table pool.old tail
+        → IsValid stage (D.past disk.new) (D.moment disk.new) lists room config table pool.new tail }
+    ensures filled { OnOk result (pool.new ≡ with_files (min (min_files - files) (2 ^ 31 - 1 - pool.old.highest)) pool.old) }
     ensures cause { HasFault result (D.faults disk.old) (D.faults disk.new) }
+    ensures later { D.moment disk.old ≤ D.moment disk.new }
+    ensures goes_on { GoesOn (D.past disk.old) (D.past disk.new) }
+    ensures tidy { OnOk result (Told (D.past disk.old) IsTidy → Told (D.past disk.new) IsTidy) }
 {
-    for _ in 1..min_files {
+    let missing = u64::from(min_files).saturating_sub(files);
+    let left = MOST_NUMBER.saturating_sub(pool.highest());
+    for _ in 0..missing.min(left) {
         prepare(disk, pool)?;
     }
     Ok(())

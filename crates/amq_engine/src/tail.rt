@@ -7,7 +7,9 @@ ghost use Rattle.amq_model.specs.Leaves.{Told, IsThere, IsWithin};
 ghost use Rattle.amq_io.specs.Faults.{HasFault};
 ghost use Rattle.amq_tx.specs.State.{TxState};
 ghost use Rattle.amq_pool.specs.Pools.{PoolOf};
-ghost use Rattle.amq_engine.specs.Engine.{IsValid, receipted, end_of_tail, written_out, with_put, reply_of, placed_behind};
+ghost use Rattle.amq_loader.specs.Loads.{IsTidy};
+ghost use Rattle.amq_engine.specs.Receipts.{GoesOn};
+ghost use Rattle.amq_engine.specs.Engine.{Stage, IsValid, receipted, end_of_tail, written_out, with_put, reply_of, placed_behind};
 
 use crate::chronicle::Chronicle;
 use crate::put::put;
@@ -44,9 +46,9 @@ pub fn write_out<D: Disk, C: Chronicle>(
     requires within { Told (D.past disk.old) (IsWithin tail.old.file.name (end_of_tail tail.old)) }
     requires size { end_of_tail tail.old ≤ 268435456 }
     requires room { (tail.old.buffer.bytes ≡ [] → ⊥) → 1 ≤ C.receipt_room chronicle.old }
-    ensures valid { (config : Config) (table : TxState) (pool : PoolOf)
-        → IsValid (D.past disk.old) (D.moment disk.old) (C.lists chronicle.old) (C.receipt_room chronicle.old) config table pool tail.old
-        → IsValid (D.past disk.new) (D.moment disk.new) (C.lists chronicle.new) (C.receipt_room chronicle.new) config table pool tail.new }
+    ensures valid { (stage : Stage) (config : Config) (table : TxState) (pool : PoolOf)
+        → IsValid stage (D.past disk.old) (D.moment disk.old) (C.lists chronicle.old) (C.receipt_room chronicle.old) config table pool tail.old
+        → IsValid stage (D.past disk.new) (D.moment disk.new) (C.lists chronicle.new) (C.receipt_room chronicle.new) config table pool tail.new }
     ensures ok { OnOk result (tail.new ≡ written_out tail.old) }
     ensures same { OnErr result (tail.new ≡ tail.old) }
     ensures receipt { C.lists chronicle.new ≡ receipted (is_ok result && is_some tail.old.buffer.since) tail.old.appended (D.moment disk.new) (C.lists chronicle.old) }
@@ -57,6 +59,8 @@ pub fn write_out<D: Disk, C: Chronicle>(
     ensures cause { HasFault result (D.faults disk.old) (D.faults disk.new) }
     ensures time { OnOk result (tail.old.buffer.since ≡ None ⊎ (D.moment disk.new ≡ counted (counted (D.moment disk.old)))) }
     ensures later { D.moment disk.old ≤ D.moment disk.new }
+    ensures goes_on { GoesOn (D.past disk.old) (D.past disk.new) }
+    ensures tidy { OnOk result (Told (D.past disk.old) IsTidy → Told (D.past disk.new) IsTidy) }
     ensures calls { D.moment disk.new ≤ D.moment disk.old + 2 }
 {
     if tail.buffer.is_empty() {

@@ -1,10 +1,12 @@
 -- What one call of a disk leaves, by what it answered.
-use Rattle.std.proofs.Common.{◌≡◌, inl, inr, Option, None, Some, Result, Ok, Err, refl, subst, ◌∙◌}
+use Rattle.std.proofs.Common.{◌≡◌, inl, inr, Option, None, Some, Result, Ok, Err, refl, sym, subst, ◌∙◌}
 use Rattle.amq_model.specs.Files.{FileName, Files}
-use Rattle.amq_model.specs.Calls.{Call, Part, Past, listing, reading, fine, no_room, broken, done, partly, noted, passed}
-use Rattle.amq_model.specs.Leaves.{Leaves, Within, Exactly, Unchanged}
+use Rattle.amq_model.specs.Calls.{Call, Part, Past, listing, reading, syncing, fine, no_room, broken, done, partly, noted, passed}
+use Rattle.amq_model.specs.Leaves.{Leaves, Within, Exactly, Unchanged, Syncs, IsAsking, OnlyAsks, IsAskingOrSyncing, HasSettledNames}
 use Rattle.amq_model.proofs.Moments.{one, none, go_on}
 use Rattle.amq_model.proofs.Chain.{loosely}
+use Rattle.amq_model.proofs.Settling.{unchanged_syncs, synced_syncs}
+use Rattle.amq_model.proofs.Asking.{asked, asked_none, names_noted, names_passed}
 use Rattle.amq_io.specs.Notes.{Notes}
 use Rattle.amq_io.specs.declared.disk.DiskError.{DiskError}
 use Rattle.amq_io.specs.declared.disk.DiskError.TheVariants.{Failed, NoMemory}
@@ -61,3 +63,35 @@ listing_only_asks result old new notes = only_asks listing result old new (λ s.
 -- a reading of a file, whatever it answers
 pub reading_only_asks : {T : Type 0} (n : FileName) (result : Result T DiskError) (old new : Option Past) → Notes (reading n) result old new → Leaves Unchanged Unchanged old new
 reading_only_asks n result old new notes = only_asks (reading n) result old new (λ s. refl) (λ part s. refl) notes
+
+-- which calls were made: one more that only asks, whatever it answers
+pub asks_noted : {T : Type 0} (call : Call) (result : Result T DiskError) (old new : Option Past) → IsAsking call → Notes call result old new → OnlyAsks old new
+asks_noted call (Ok x) old new asks notes = asked call fine old new asks notes
+asks_noted call (Err NoMemory) old new asks (inl notes) = asked_none old new notes
+asks_noted call (Err NoMemory) old new asks (inr notes) = asked call no_room old new asks notes
+asks_noted call (Err Failed) old new asks notes = asked call (broken notes.0) old new asks notes.1
+
+pub listing_asks : {T : Type 0} (result : Result T DiskError) (old new : Option Past) → Notes listing result old new → OnlyAsks old new
+listing_asks result old new notes = asks_noted listing result old new tt notes
+
+pub reading_asks : {T : Type 0} (n : FileName) (result : Result T DiskError) (old new : Option Past) → Notes (reading n) result old new → OnlyAsks old new
+reading_asks n result old new notes = asks_noted (reading n) result old new tt notes
+
+-- settled names stay so through a list, a read or a sync, whatever it answers
+pub names_on : {T : Type 0} (call : Call) (result : Result T DiskError) (old new : Option Past) → IsAskingOrSyncing call → HasSettledNames old → Notes call result old new → HasSettledNames new
+names_on call (Ok x) old new asks names notes = names_noted call fine old new asks names notes
+names_on call (Err NoMemory) old new asks names (inl notes) = names_passed old new names notes
+names_on call (Err NoMemory) old new asks names (inr notes) = names_noted call no_room old new asks names notes
+names_on call (Err Failed) old new asks names notes = names_noted call (broken notes.0) old new asks names notes.1
+
+-- what a sync leaves, whatever it answers
+pub syncing_syncs : {T : Type 0} (n : FileName) (result : Result T DiskError) (old new : Option Past) → Notes (syncing n) result old new → Leaves Syncs Syncs old new
+syncing_syncs n result old new notes = loosely (Within (syncing n)) Syncs (Ended (syncing n) result) Syncs old new
+    within
+    (λ o s e. within o s (ended_within (syncing n) result o s e))
+    (called (syncing n) result old new notes)
+  where
+    within : (o s : Files) → Within (syncing n) o s → Syncs o s
+    within o s (inl e) = unchanged_syncs o s e
+    within o s (inr (inl e)) = subst (Syncs o) (sym e) (synced_syncs n o)
+    within o s (inr (inr e)) = unchanged_syncs o s e.1

@@ -9,7 +9,7 @@ mod streams;
 mod tests;
 
 use amq_cli::{Status, Unbuilt, offline};
-use amq_model::NoMemory;
+use amq_model::{DirFault, NoMemory};
 use folder_disk::FolderDisk;
 use std::env::{self, Env};
 use std::fs::File;
@@ -23,9 +23,7 @@ fn main(rt: HostRuntime) -> ExitCode {
         Ok(status) => status,
         Err(NoMemory) => Status::NoMemory,
     };
-    if let Some(line) = line_of(&status) {
-        let _ = eprintln!(rt; "journal: {line}");
-    }
+    print_line(&rt, &status);
     ExitCode::from(status.code())
 }
 
@@ -63,15 +61,50 @@ fn words<R: Env + AllocGlobal>(rt: &R) -> Result<Option<Vec<String>>, NoMemory> 
     }
 }
 
-/// What is printed of a status on the standard error.
-fn line_of(status: &Status) -> Option<&'static str> {
-    match status {
-        Status::Ok => None,
-        Status::SourceFault => Some("source fault"),
-        Status::SinkFault => Some("sink fault"),
-        Status::DiskFault => Some("disk fault"),
-        Status::NoMemory => Some("no memory"),
-        Status::InputTooLong { limit: _ } => Some("input longer than 67108864 bytes"),
-        Status::NotBuilt { part: _ } => Some("not built"),
-    }
+/// Prints the line of a status on the standard error, for all but status 0.
+fn print_line(rt: &impl Eprint, status: &Status) {
+    let _ = match status {
+        Status::Ok => Ok(()),
+        Status::SourceFault => eprintln!(rt; "journal: source fault"),
+        Status::SinkFault => eprintln!(rt; "journal: sink fault"),
+        Status::DiskFault => eprintln!(rt; "journal: disk fault"),
+        Status::Directory { fault } => return print_fault(rt, fault),
+        Status::NoMemory => eprintln!(rt; "journal: no memory"),
+        Status::FileIdsSpent { highest } => {
+            eprintln!(rt; "journal: file ids spent at {highest}")
+        }
+        Status::InputTooLong { limit } => {
+            eprintln!(rt; "journal: input longer than {limit} bytes")
+        }
+        Status::NotBuilt { part: _ } => eprintln!(rt; "journal: not built"),
+    };
+}
+
+/// Prints the line of a directory that isn't loaded.
+fn print_fault(rt: &impl Eprint, fault: &DirFault) {
+    let _ = match fault {
+        DirFault::TooLong { name, len } => {
+            eprintln!(rt; "journal: directory: {len} bytes in {}", name.as_str())
+        }
+        DirFault::Version { name, found } => {
+            eprintln!(rt; "journal: directory: version {found} in {}", name.as_str())
+        }
+        DirFault::UserVersion {
+            name,
+            found,
+            wanted,
+        } => {
+            eprintln!(rt;
+                "journal: directory: user version {found} in {}, not {wanted}",
+                name.as_str()
+            )
+        }
+        DirFault::TwoFiles { id, first, second } => {
+            eprintln!(rt;
+                "journal: directory: id {id} in {} and {}",
+                first.as_str(),
+                second.as_str()
+            )
+        }
+    };
 }

@@ -7,7 +7,7 @@ use Rattle.std.proofs.lemmas.Cmp.{nat_list_cmp_total}
 use Rattle.std.specs.FinMap as map
 use Rattle.amq_model.specs.Files.{FileName, Range, File, Files, Image, IsPending, IsTorn, IsFileImage, IsImage, IsReading, created, written, pended, synced, renamed, changed, put_where, move_where}
 use Rattle.amq_model.specs.Calls.{Part, Event, Past, listing, creating, writing, syncing, renaming, fine, broken, undone, whole, short, absent, partly}
-use Rattle.amq_model.specs.Crash.{ReadsSince, MayLeave}
+use Rattle.amq_model.specs.Crash.{settled_since, ReadsBefore, nothing_since, Reads, ReadsSince, MayLeave}
 use Rattle.amq_model.proofs.Literals.{are_bytes, unequal}
 
 abbrev pub a : FileName
@@ -142,10 +142,10 @@ renamed_one q = ap (λ found. map.get (move_where found a b start) q) (has_one a
     by false = refl
 
 pub under_the_old_name : MayLeave (Some renames) 1 (one a (1 ∷ [])) (one a (1 ∷ []))
-under_the_old_name = (start, inr (inr (omega arith, (start, refl, (undone, tt, refl)))), is_reading start a _ (has_one a _), is_image start a _ _ (has_one a _) (durable (1 ∷ []) (are_bytes (1 ∷ []) tt)))
+under_the_old_name = (start, inr (inr (omega arith, (start, refl, (undone, (λ listed. absurd cc), refl)))), is_reading start a _ (has_one a _), is_image start a _ _ (has_one a _) (durable (1 ∷ []) (are_bytes (1 ∷ []) tt)))
 
 pub under_the_new_name : MayLeave (Some renames) 1 (one b (1 ∷ [])) (one b (1 ∷ []))
-under_the_new_name = (renamed a b start, inr (inr (omega arith, (start, refl, (whole, tt, refl)))), is_reading (renamed a b start) b _ renamed_one, is_image (renamed a b start) b _ _ renamed_one (durable (1 ∷ []) (are_bytes (1 ∷ []) tt)))
+under_the_new_name = (renamed a b start, inr (inr (omega arith, (start, refl, (whole, (λ listed. absurd cc), refl)))), is_reading (renamed a b start) b _ renamed_one, is_image (renamed a b start) b _ _ renamed_one (durable (1 ∷ []) (are_bytes (1 ∷ []) tt)))
 
 -- but not under neither
 pub under_neither : (reading image : Image) → map.get image a ≡ None → map.get image b ≡ None → MayLeave (Some renames) 0 reading image → ⊥
@@ -249,7 +249,7 @@ list = record { call = listing; outcome = fine; before = 2 }
 
 -- no sync settles it: the name may be absent still
 pub still_absent : MayLeave (Some (record { start = nothing; calls = sync ∷ create ∷ []; moment = 2 })) 2 nothing nothing
-still_absent = (synced a nothing, inr (inr (omega arith, (nothing, (nothing, refl, (undone, tt, refl)), (refl, tt)))), no_reading (synced a nothing) none, no_image (synced a nothing) none) where
+still_absent = (synced a nothing, inr (inr (omega arith, (nothing, (nothing, refl, (undone, (λ listed. absurd cc), refl)), (refl, tt)))), no_reading (synced a nothing) none, no_image (synced a nothing) none) where
   none : (q : FileName) → map.get (synced a nothing) q ≡ None
   none q = ap (λ found. map.get (put_where found (λ f. record { bytes = f.bytes; pending = [] }) nothing a) q) (none_there a) ∙ none_there q
 
@@ -277,9 +277,44 @@ listed reading image g (s, since, read, left) = by since where
 
 -- what it told is left
 pub listed_there : MayLeave (Some (record { start = nothing; calls = list ∷ sync ∷ create ∷ []; moment = 3 })) 3 (one a (0x4a ∷ 0x4a ∷ [])) (one a (0x4a ∷ 0x4a ∷ []))
-listed_there = (told, inr (inr (omega arith, (told, (created a 2 0x4a nothing, (nothing, refl, (whole, tt, refl)), (refl, tt)), (refl, λ n. refl)))), is_reading told a _ there, is_image told a _ _ there (durable (0x4a ∷ 0x4a ∷ []) (are_bytes (0x4a ∷ 0x4a ∷ []) tt))) where
+listed_there = (told, inr (inr (omega arith, (told, (created a 2 0x4a nothing, (nothing, refl, (whole, (λ listed. refl), refl)), (refl, tt)), (refl, λ n. refl)))), is_reading told a _ there, is_image told a _ _ there (durable (0x4a ∷ 0x4a ∷ []) (are_bytes (0x4a ∷ 0x4a ∷ []) tt))) where
   told : Files
   told = synced a (created a 2 0x4a nothing)
 
   there : HasOne told a (file (0x4a ∷ 0x4a ∷ []) [])
   there = changed_one (created a 2 0x4a nothing) a _ _ (has_one a _ a) (has_one a _)
+
+-- ---- a create that failed over a file of the same length
+
+abbrev over : Event
+over = record { call = creating a 2 0x4a; outcome = broken undone; before = 0 }
+
+abbrev list_behind : Event
+list_behind = record { call = listing; outcome = fine; before = 1 }
+
+-- the disk reads the old file
+pub old_file_is_read : Reads two (over ∷ []) two
+old_file_is_read = (two, refl, (undone, (λ listed. refl), refl))
+
+-- and the new one is another reading,
+pub new_file_is_a_reading : Reads two (over ∷ []) (created a 2 0x4a two)
+new_file_is_a_reading = (two, refl, (whole, (λ listed. absurd cc), refl))
+
+pub another_reading : created a 2 0x4a two ≡ two → ⊥
+another_reading e =
+    let there : map.get (created a 2 0x4a two) a ≡ Some (file (0x4a ∷ 0x4a ∷ []) ((0, 2) ∷ [])) = inserted two a _ a in
+    let both : Some (file (0x4a ∷ 0x4a ∷ []) ((0, 2) ∷ [])) ≡ Some (file (1 ∷ 2 ∷ []) []) = sym there ∙ ap (λ m. map.get m a) e ∙ has_one a _ a in
+    unequal 0x4a 1 tt (ap first_byte both)
+  where
+    first_byte : Option File → ℕ
+    first_byte None = 0
+    first_byte (Some f) = slice_index f.bytes 0
+
+-- but no longer behind a list that answered Ok: then what the disk reads is the only one.
+pub only_as_listed : (s : Files) → Reads two (list_behind ∷ over ∷ []) s → s ≡ two
+only_as_listed s (old, (first, begun, (other, may, e)), (is, agrees)) = is ∙ e ∙ ap (λ p. partly over.call p first) (may refl) ∙ begun
+
+pub still_read_as_listed : Reads two (list_behind ∷ over ∷ []) two
+still_read_as_listed = (two, old_before, (refl, λ n. refl)) where
+  old_before : ReadsBefore (settled_since listing fine two nothing_since) two (over ∷ []) two
+  old_before = (two, refl, (undone, (λ listed. refl), refl))

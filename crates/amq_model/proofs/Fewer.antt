@@ -1,10 +1,11 @@
--- A reading where the files of some names are synced later on is one where fewer are.
-use Rattle.std.proofs.Common.{◌≡◌, zero, suc, Bool, true, false, cond, not, List, [], ◌∷◌, map, refl, sym, ap, subst, ◌∙◌, arith}
+-- A reading where later calls settle something is one where they settle less.
+use Rattle.std.proofs.Common.{◌≡◌, zero, suc, Bool, true, false, cond, not, Option, None, Some, List, [], ◌∷◌, map, refl, sym, ap, subst, ◌∙◌, arith}
 use Rattle.std.specs.Prelude.{Contains, filter}
+use Rattle.std.specs.FinMap as finite
 use Rattle.amq_model.specs.Names.{same}
-use Rattle.amq_model.specs.Files.{FileName, Files}
+use Rattle.amq_model.specs.Files.{FileName, File, Files}
 use Rattle.amq_model.specs.Calls.{Call, Part, Outcome, undone, whole, short, absent, fine, no_room, broken, listing, reading, creating, writing, syncing, renaming, removing, Event, content}
-use Rattle.amq_model.specs.Crash.{name_before, other_names, synced_since, MayHaveDone, Next, ReadsBefore, Reads}
+use Rattle.amq_model.specs.Crash.{name_before, other_names, names_before, synced_since, Settling, listed_since, settled_since, MayHaveDone, Next, ReadsBefore, nothing_since, Reads}
 
 -- each name of the first list is in the second
 abbrev pub AreAmong : List FileName → List FileName → Type 0
@@ -19,7 +20,7 @@ mapped f [] n (k, lt, is) = absurd (omega (arith, lt))
 mapped f (x ∷ xs) n (zero, lt, is) = (x, (zero, omega arith, refl), is)
 mapped f (x ∷ xs) n (suc k, lt, is) = let from = mapped f xs n (k, omega (arith, lt), is) in (from.0, (suc from.1.0, omega (arith, from.1.1), from.1.2), from.2)
 
-into_mapped : (f : FileName → FileName) (names : List FileName) (m n : FileName) → Contains names m → f m ≡ n → Contains (map f names) n
+pub into_mapped : (f : FileName → FileName) (names : List FileName) (m n : FileName) → Contains names m → f m ≡ n → Contains (map f names) n
 into_mapped f [] m n (k, lt, is) same = absurd (omega (arith, lt))
 into_mapped f (x ∷ xs) m n (zero, lt, is) same = (zero, omega arith, cc)
 into_mapped f (x ∷ xs) m n (suc k, lt, is) same = let there = into_mapped f xs m n (k, omega (arith, lt), is) same in (suc there.0, omega (arith, there.1), there.2)
@@ -36,7 +37,7 @@ kept t (x ∷ xs) n there = by (kept t xs n) (t x) refl there where
   by rest true passed (suc k, lt, is) = let r = rest (k, omega (arith, lt), is) in ((suc r.0.0, omega (arith, r.0.1), r.0.2), r.1)
   by rest false failed there = let r = rest there in ((suc r.0.0, omega (arith, r.0.1), r.0.2), r.1)
 
-into_kept : (t : FileName → Bool) (names : List FileName) (n : FileName) → Contains names n → t n ≡ true → Contains (filter t names) n
+pub into_kept : (t : FileName → Bool) (names : List FileName) (n : FileName) → Contains names n → t n ≡ true → Contains (filter t names) n
 into_kept t [] n (k, lt, is) passed = absurd (omega (arith, lt))
 into_kept t (x ∷ xs) n there passed = by (into_kept t xs n) (t x) refl there where
   by : (Contains xs n → t n ≡ true → Contains (filter t xs) n) → (b : Bool) → t x ≡ b → Contains (x ∷ xs) n → Contains (cond b (x ∷ filter t xs) (filter t xs)) n
@@ -48,49 +49,75 @@ into_kept t (x ∷ xs) n there passed = by (into_kept t xs n) (t x) refl there w
 among_others : (n : FileName) (names more : List FileName) → AreAmong names more → AreAmong (other_names n names) (other_names n more)
 among_others n names more among m there = let r = kept (λ m. not (same m n)) names m there in into_kept (λ m. not (same m n)) more m (among m r.0) r.1
 
-among_since : (call : Call) (outcome : Outcome) (names more : List FileName) → AreAmong names more → AreAmong (synced_since call outcome names) (synced_since call outcome more)
-among_since listing outcome names more among = among
-among_since (reading n) outcome names more among = among
-among_since (creating n len fill) fine names more among = among_others n names more among
-among_since (creating n len fill) no_room names more among = among
-among_since (creating n len fill) (broken undone) names more among = among
-among_since (creating n len fill) (broken whole) names more among = among_others n names more among
-among_since (creating n len fill) (broken (short k)) names more among = among_others n names more among
-among_since (creating n len fill) (broken absent) names more among = among_others n names more among
-among_since (writing n place bytes) outcome names more among = among
-among_since (syncing n) fine names more among = among_cons names more n among
-among_since (syncing n) no_room names more among = among
-among_since (syncing n) (broken part) names more among = among
-among_since (renaming from to) fine names more among = among_mapped (name_before from to) names more among
-among_since (renaming from to) no_room names more among = among
-among_since (renaming from to) (broken undone) names more among = among
-among_since (renaming from to) (broken whole) names more among = among_mapped (name_before from to) names more among
-among_since (renaming from to) (broken (short k)) names more among = among
-among_since (renaming from to) (broken absent) names more among = among
-among_since (removing n) outcome names more among = among
+among_before : (found : Option File) (from to : FileName) (names more : List FileName) → AreAmong names more → AreAmong (names_before found from to names) (names_before found from to more)
+among_before None from to names more among = among
+among_before (Some file) from to names more among = among_mapped (name_before from to) names more among
 
-may_with_fewer : (call : Call) (part other : Part) (names more : List FileName) → AreAmong names more → MayHaveDone more call part other → MayHaveDone names call part other
-may_with_fewer listing part other names more among may = tt
-may_with_fewer (reading n) part other names more among may = tt
-may_with_fewer (creating n len fill) part other names more among may = tt
-may_with_fewer (writing n place bytes) part other names more among may = λ there. may (among n there)
-may_with_fewer (syncing n) part other names more among may = tt
-may_with_fewer (renaming from to) part other names more among may = tt
-may_with_fewer (removing n) part other names more among may = tt
+among_since : (call : Call) (outcome : Outcome) (told : Files) (names more : List FileName) → AreAmong names more → AreAmong (synced_since call outcome told names) (synced_since call outcome told more)
+among_since listing outcome told names more among = among
+among_since (reading n) outcome told names more among = among
+among_since (creating n len fill) fine told names more among = among_others n names more among
+among_since (creating n len fill) no_room told names more among = among
+among_since (creating n len fill) (broken undone) told names more among = among
+among_since (creating n len fill) (broken whole) told names more among = among_others n names more among
+among_since (creating n len fill) (broken (short k)) told names more among = among_others n names more among
+among_since (creating n len fill) (broken absent) told names more among = among_others n names more among
+among_since (writing n place bytes) outcome told names more among = among
+among_since (syncing n) fine told names more among = among_cons names more n among
+among_since (syncing n) no_room told names more among = among
+among_since (syncing n) (broken part) told names more among = among
+among_since (renaming from to) fine told names more among = among_before (finite.get told from) from to names more among
+among_since (renaming from to) no_room told names more among = among
+among_since (renaming from to) (broken undone) told names more among = among
+among_since (renaming from to) (broken whole) told names more among = among_before (finite.get told from) from to names more among
+among_since (renaming from to) (broken (short k)) told names more among = among
+among_since (renaming from to) (broken absent) told names more among = among
+among_since (removing n) outcome told names more among = among
 
-next_with_fewer : (call : Call) (outcome : Outcome) (told o s : Files) (names more : List FileName) → AreAmong names more → Next more call outcome told o s → Next names call outcome told o s
-next_with_fewer call fine told o s names more among next = next
-next_with_fewer call no_room told o s names more among next = next
-next_with_fewer call (broken part) told o s names more among next = (next.0, may_with_fewer call part next.0 names more among next.1, next.2)
+-- what the first settles the second does
+pub record SettlesMore (less more : Settling) : Type 0 where
+  pub listed : less.listed ≡ true → more.listed ≡ true
+  pub synced : AreAmong less.synced more.synced
 
-pub reads_with_fewer : (names more : List FileName) (start : Files) (es : List Event) (s : Files) → AreAmong names more → ReadsBefore more start es s → ReadsBefore names start es s
-reads_with_fewer names more start [] s among reads = reads
-reads_with_fewer names more start (e ∷ es) s among reads = (
+listed_more : (call : Call) (outcome : Outcome) (less more : Bool) → (less ≡ true → more ≡ true) → listed_since call outcome less ≡ true → listed_since call outcome more ≡ true
+listed_more listing fine less more goes is = refl
+listed_more listing no_room less more goes is = goes is
+listed_more listing (broken part) less more goes is = goes is
+listed_more (reading n) outcome less more goes is = goes is
+listed_more (creating n len fill) outcome less more goes is = goes is
+listed_more (writing n place bytes) outcome less more goes is = goes is
+listed_more (syncing n) outcome less more goes is = goes is
+listed_more (renaming from to) outcome less more goes is = goes is
+listed_more (removing n) outcome less more goes is = goes is
+
+more_since : (call : Call) (outcome : Outcome) (told : Files) (less more : Settling) → SettlesMore less more → SettlesMore (settled_since call outcome told less) (settled_since call outcome told more)
+more_since call outcome told less more among = record {
+  listed = listed_more call outcome less.listed more.listed among.listed;
+  synced = among_since call outcome told less.synced more.synced among.synced;
+}
+
+may_with_fewer : (call : Call) (part other : Part) (less more : Settling) → SettlesMore less more → MayHaveDone more call part other → MayHaveDone less call part other
+may_with_fewer listing part other less more among may = tt
+may_with_fewer (reading n) part other less more among may = tt
+may_with_fewer (creating n len fill) part other less more among may = λ is. may (among.listed is)
+may_with_fewer (writing n place bytes) part other less more among may = λ there. may (among.synced n there)
+may_with_fewer (syncing n) part other less more among may = tt
+may_with_fewer (renaming from to) part other less more among may = λ is. may (among.listed is)
+may_with_fewer (removing n) part other less more among may = λ is. may (among.listed is)
+
+next_with_fewer : (call : Call) (outcome : Outcome) (told o s : Files) (less more : Settling) → SettlesMore less more → Next more call outcome told o s → Next less call outcome told o s
+next_with_fewer call fine told o s less more among next = next
+next_with_fewer call no_room told o s less more among next = next
+next_with_fewer call (broken part) told o s less more among next = (next.0, may_with_fewer call part next.0 less more among next.1, next.2)
+
+reads_with_fewer : (less more : Settling) (start : Files) (es : List Event) (s : Files) → SettlesMore less more → ReadsBefore more start es s → ReadsBefore less start es s
+reads_with_fewer less more start [] s among reads = reads
+reads_with_fewer less more start (e ∷ es) s among reads = (
   reads.0,
-  reads_with_fewer (synced_since e.call e.outcome names) (synced_since e.call e.outcome more) start es reads.0 (among_since e.call e.outcome names more among) reads.1,
-  next_with_fewer e.call e.outcome (content start es) reads.0 s names more among reads.2,
+  reads_with_fewer (settled_since e.call e.outcome (content start es) less) (settled_since e.call e.outcome (content start es) more) start es reads.0 (more_since e.call e.outcome (content start es) less more among) reads.1,
+  next_with_fewer e.call e.outcome (content start es) reads.0 s less more among reads.2,
 )
 
--- whatever is synced later on, it is a reading
-pub reads_before : (names : List FileName) (start : Files) (es : List Event) (s : Files) → ReadsBefore names start es s → Reads start es s
-reads_before names start es s reads = reads_with_fewer [] names start es s (λ n none. absurd (omega (arith, none.1))) reads
+-- whatever is settled later on, it is a reading
+pub reads_before : (later : Settling) (start : Files) (es : List Event) (s : Files) → ReadsBefore later start es s → Reads start es s
+reads_before later start es s reads = reads_with_fewer nothing_since later start es s (record { listed = λ is. absurd cc; synced = λ n none. absurd (omega (arith, none.1)) }) reads

@@ -1,9 +1,9 @@
 -- What holds of all that may be left goes on from call to call.
 use Rattle.std.proofs.Common.{⊎_elim, ℕ, ◌-◌, ◌^◌, ◌<◌, List, [], ◌∷◌, Option, None, Some, refl, sym, subst, arith}
 use Rattle.std.specs.Prelude.{IfSome}
-use Rattle.amq_model.specs.Files.{FileName, Files, Image, IsImage, IsReading}
+use Rattle.amq_model.specs.Files.{Files, Image, IsImage, IsReading}
 use Rattle.amq_model.specs.Calls.{Call, Part, Outcome, fine, no_room, broken, listing, reading, creating, writing, syncing, renaming, removing, Past, Event, content, after}
-use Rattle.amq_model.specs.Crash.{synced_since, MayHaveDone, AgreesWithList, Next, ReadsBefore, Reads, ReadsSince, MayLeave}
+use Rattle.amq_model.specs.Crash.{Settling, settled_since, MayHaveDone, AgreesWithList, Next, ReadsBefore, nothing_since, Reads, ReadsSince, MayLeave}
 use Rattle.amq_model.specs.Leaves.{Leaves, Told, AllReads, HoldsSince, IsAt}
 use Rattle.amq_model.proofs.Moments.{reads_now, only_now}
 
@@ -16,28 +16,28 @@ agrees_itself (syncing n) s = tt
 agrees_itself (renaming from to) s = tt
 agrees_itself (removing n) s = tt
 
-may_itself : (names : List FileName) (call : Call) (part : Part) → MayHaveDone names call part part
-may_itself names listing part = tt
-may_itself names (reading n) part = tt
-may_itself names (creating n len fill) part = tt
-may_itself names (writing n place bytes) part = λ there. refl
-may_itself names (syncing n) part = tt
-may_itself names (renaming from to) part = tt
-may_itself names (removing n) part = tt
+may_itself : (later : Settling) (call : Call) (part : Part) → MayHaveDone later call part part
+may_itself later listing part = tt
+may_itself later (reading n) part = tt
+may_itself later (creating n len fill) part = λ is. refl
+may_itself later (writing n place bytes) part = λ there. refl
+may_itself later (syncing n) part = tt
+may_itself later (renaming from to) part = λ is. refl
+may_itself later (removing n) part = λ is. refl
 
-next_itself : (names : List FileName) (call : Call) (outcome : Outcome) (s : Files) → Next names call outcome s s (after call outcome s)
-next_itself names call fine s = (refl, agrees_itself call s)
-next_itself names call no_room s = refl
-next_itself names call (broken part) s = (part, may_itself names call part, refl)
+next_itself : (later : Settling) (call : Call) (outcome : Outcome) (s : Files) → Next later call outcome s s (after call outcome s)
+next_itself later call fine s = (refl, agrees_itself call s)
+next_itself later call no_room s = refl
+next_itself later call (broken part) s = (part, may_itself later call part, refl)
 
--- What the disk reads at a moment is one of the readings of it, whatever is synced later on.
-pub content_reads_before : (names : List FileName) (start : Files) (es : List Event) → ReadsBefore names start es (content start es)
-content_reads_before names start [] = refl
-content_reads_before names start (e ∷ es) = (content start es, content_reads_before (synced_since e.call e.outcome names) start es, next_itself names e.call e.outcome (content start es))
+-- What the disk reads at a moment is one of the readings of it, whatever is settled later on.
+pub content_reads_before : (later : Settling) (start : Files) (es : List Event) → ReadsBefore later start es (content start es)
+content_reads_before later start [] = refl
+content_reads_before later start (e ∷ es) = (content start es, content_reads_before (settled_since e.call e.outcome (content start es) later) start es, next_itself later e.call e.outcome (content start es))
 
 -- what the disk reads is one of the readings
 pub content_reads : (start : Files) (es : List Event) → Reads start es (content start es)
-content_reads start es = content_reads_before [] start es
+content_reads start es = content_reads_before nothing_since start es
 
 -- what all readings have, the disk reads
 pub all_told : (h : Option Past) (P : Files → Type 0) → AllReads h P → Told h P

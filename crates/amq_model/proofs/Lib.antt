@@ -1,6 +1,7 @@
 pub mod Alone
 pub mod AnswersExamples
 pub mod AscendingLaws
+pub mod Asking
 pub mod Chain
 pub mod ControlFiles
 pub mod Crashes
@@ -16,6 +17,7 @@ pub mod KeptExamples
 pub mod Literals
 pub mod Lookups
 pub mod Moments
+pub mod OneReading
 pub mod OpenExamples
 pub mod Plain
 pub mod RecordLinesExamples

@@ -1,13 +1,13 @@
 -- What a crash may leave of a directory, at every moment since one.
-use Rattle.std.specs.Prelude.{◌≡◌, ◌⊎◌, ℕ, ◌^◌, ◌%◌, ◌≤◌, List, [], ◌∷◌, length, map, filter, not, if◌then◌else◌, Option, None, Some, option_map, Contains, All}
+use Rattle.std.specs.Prelude.{◌≡◌, ◌⊎◌, ℕ, ◌^◌, ◌%◌, ◌≤◌, Bool, true, false, List, [], ◌∷◌, length, map, filter, not, if◌then◌else◌, Option, None, Some, option_map, Contains, All}
 use Rattle.std.specs.FinMap as finite
 use Rattle.amq_model.specs.declared.directory.Control.{Control}
 use Rattle.amq_model.specs.RecordAt.{Spot}
 use Rattle.amq_model.specs.Scan.{IsScan}
 use Rattle.amq_model.specs.Names.{same}
 use Rattle.amq_model.specs.Directory.{FileOf, file_of, SaysControl, data_files, placed}
-use Rattle.amq_model.specs.Files.{FileName, Files, Image, IsImage, IsReading}
-use Rattle.amq_model.specs.Calls.{Call, Part, Outcome, Event, Past, listing, creating, writing, syncing, renaming, fine, no_room, broken, whole, short, absent, done, partly, content}
+use Rattle.amq_model.specs.Files.{FileName, File, Files, Image, IsImage, IsReading}
+use Rattle.amq_model.specs.Calls.{Call, Part, Outcome, Event, Past, listing, creating, writing, syncing, renaming, removing, fine, no_room, broken, whole, short, absent, done, partly, content}
 
 -- ---- what settles a failed call
 
@@ -19,46 +19,75 @@ name_before from to n = if same n to then from else n
 abbrev pub other_names : FileName → List FileName → List FileName
 other_names n names = filter (λ m. not (same m n)) names
 
--- The files that were synced since, by their names before a call. A name is that of a file, so it is followed
--- through renames, and is another file's behind a create, also where those failed and the disk reads them as done.
-abbrev pub synced_since : Call → Outcome → List FileName → List FileName
-synced_since (syncing n) fine names = n ∷ names
-synced_since (creating n len fill) fine names = other_names n names
-synced_since (creating n len fill) (broken whole) names = other_names n names
-synced_since (creating n len fill) (broken (short k)) names = other_names n names
-synced_since (creating n len fill) (broken absent) names = other_names n names
-synced_since (renaming from to) fine names = map (name_before from to) names
-synced_since (renaming from to) (broken whole) names = map (name_before from to) names
-synced_since _ _ names = names
+-- the names before a rename of this file, if it is there
+abbrev pub names_before : Option File → FileName → FileName → List FileName → List FileName
+names_before None from to names = names
+names_before (Some file) from to names = map (name_before from to) names
 
--- Which part a failed call may have done, where the disk reads `part` of it: of a write to a file that was synced
--- since, that one alone.
-abbrev pub MayHaveDone : List FileName → Call → Part → Part → Type 0
-MayHaveDone names (writing n place bytes) part other = Contains names n → other ≡ part
-MayHaveDone names _ part other = Unit {0}
+-- The files that were synced since, by their names before a call, where the disk reads `told` then. A name is that of
+-- a file, so it is followed through renames, and is another file's behind a create, also where those failed and the
+-- disk reads them as done.
+abbrev pub synced_since : Call → Outcome → Files → List FileName → List FileName
+synced_since (syncing n) fine told names = n ∷ names
+synced_since (creating n len fill) fine told names = other_names n names
+synced_since (creating n len fill) (broken whole) told names = other_names n names
+synced_since (creating n len fill) (broken (short k)) told names = other_names n names
+synced_since (creating n len fill) (broken absent) told names = other_names n names
+synced_since (renaming from to) fine told names = names_before (finite.get told from) from to names
+synced_since (renaming from to) (broken whole) told names = names_before (finite.get told from) from to names
+synced_since _ _ told names = names
 
--- a list that answered Ok tells which files are there, and how long they are
+-- What later calls that answered Ok settle: which files are there, if there was a list, and what the files of these
+-- names hold, which were synced.
+pub record Settling : Type 0 where
+  pub listed : Bool
+  pub synced : List FileName
+
+-- a list that answered Ok is among the later calls
+abbrev pub listed_since : Call → Outcome → Bool → Bool
+listed_since listing fine listed = true
+listed_since _ _ listed = listed
+
+-- what is settled by this call and those behind it, where the disk reads `told` before it
+abbrev pub settled_since : Call → Outcome → Files → Settling → Settling
+settled_since call outcome told later = record { listed = listed_since call outcome later.listed; synced = synced_since call outcome told later.synced }
+
+-- Which part a failed call may have done, where the disk reads `part` of it: that one alone, of a create, rename or
+-- remove with a list behind it, and of a write to a file that was synced since.
+abbrev pub MayHaveDone : Settling → Call → Part → Part → Type 0
+MayHaveDone later (creating n len fill) part other = later.listed ≡ true → other ≡ part
+MayHaveDone later (writing n place bytes) part other = Contains later.synced n → other ≡ part
+MayHaveDone later (renaming from to) part other = later.listed ≡ true → other ≡ part
+MayHaveDone later (removing n) part other = later.listed ≡ true → other ≡ part
+MayHaveDone later _ part other = Unit {0}
+
+-- A list that answered Ok tells which files are there, and how long they are. That follows from what it settles, and
+-- is said here so that it needs no proof.
 abbrev pub AgreesWithList : Call → Files → Files → Type 0
 AgreesWithList listing told s = (n : FileName) → option_map (λ f. length f.bytes) (finite.get s n) ≡ option_map (λ f. length f.bytes) (finite.get told n)
 AgreesWithList _ told s = Unit {0}
 
 -- ---- readings
 
--- A reading of the moment before a call goes on to one of the moment after it. The files of `names` are synced later on.
-abbrev pub Next : List FileName → Call → Outcome → Files → Files → Files → Type 0
-Next names call fine told s new = (new ≡ done call s) × AgreesWithList call told s
-Next names call no_room told s new = new ≡ s
-Next names call (broken part) told s new = (other : Part) × MayHaveDone names call part other × (new ≡ partly call other s)
+-- A reading of the moment before a call goes on to one of the moment after it. `later` is what calls behind it settle.
+abbrev pub Next : Settling → Call → Outcome → Files → Files → Files → Type 0
+Next later call fine told s new = (new ≡ done call s) × AgreesWithList call told s
+Next later call no_room told s new = new ≡ s
+Next later call (broken part) told s new = (other : Part) × MayHaveDone later call part other × (new ≡ partly call other s)
 
--- The readings behind these calls, where the files of `names` are synced later on.
-abbrev pub ReadsBefore : List FileName → Files → List Event → Files → Type 0
-ReadsBefore names start [] s = s ≡ start
-ReadsBefore names start (e ∷ es) s = (old : Files) × ReadsBefore (synced_since e.call e.outcome names) start es old × Next names e.call e.outcome (content start es) old s
+-- The readings behind these calls, where `later` is what calls behind them settle.
+abbrev pub ReadsBefore : Settling → Files → List Event → Files → Type 0
+ReadsBefore later start [] s = s ≡ start
+ReadsBefore later start (e ∷ es) s = (old : Files) × ReadsBefore (settled_since e.call e.outcome (content start es) later) start es old × Next later e.call e.outcome (content start es) old s
+
+-- nothing was called since
+abbrev pub nothing_since : Settling
+nothing_since = record { listed = false; synced = [] }
 
 -- The readings of this moment: what the disk reads, and for each call that failed and isn't settled those in which
 -- it was done, wasn't done, or, for a create, was done in part.
 abbrev pub Reads : Files → List Event → Files → Type 0
-Reads start es s = ReadsBefore [] start es s
+Reads start es s = ReadsBefore nothing_since start es s
 
 -- the readings while a call is under way
 abbrev pub ReadsDuring : Files → List Event → Call → Files → Type 0

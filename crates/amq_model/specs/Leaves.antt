@@ -1,13 +1,13 @@
 -- What some calls of a disk leave, said of each reading that there was before them, and what holds of all that is left.
-use Rattle.std.specs.Prelude.{◌≡◌, ◌⊎◌, ℕ, ◌≤◌, List, [], length, Option, None, Some, option_map, IfSome, IsSome}
+use Rattle.std.specs.Prelude.{◌≡◌, ◌⊎◌, ℕ, ◌≤◌, List, [], ◌∷◌, ◌++◌, length, Option, None, Some, option_map, IfSome, IsSome, All}
 use Rattle.std.specs.FinMap as finite
-use Rattle.amq_model.specs.Files.{FileName, File, Files, Image, IsImage}
-use Rattle.amq_model.specs.Calls.{Call, Part, Past, done, partly, content, IsTimed}
+use Rattle.amq_model.specs.Files.{FileName, File, Files, Image, IsImage, IsPending}
+use Rattle.amq_model.specs.Calls.{Call, Part, Outcome, Event, Past, listing, reading, syncing, fine, done, partly, content, IsTimed}
 use Rattle.amq_model.specs.Crash.{Reads, ReadsSince, MayLeave}
 
 -- ---- what calls leave
 
--- From old to new: what was left before stays, and whatever else may be left comes from a reading of old by `inside`, and in the end by `at_end`.
+-- From old to new: what was left before stays, and whatever else may be left comes from a reading of old by `inside`, in the end by `at_end`, and since the moment of old alone.
 pub record Goes (inside at_end : Files → Files → Type 0) (old new : Past) : Type 0 where
   pub later : old.moment ≤ new.moment
   pub told : at_end (content old.start old.calls) (content new.start new.calls)
@@ -15,6 +15,8 @@ pub record Goes (inside at_end : Files → Files → Type 0) (old new : Past) : 
   pub left : (t : ℕ) (s : Files) → t ≤ old.moment → ReadsSince new.start new.calls new.moment t s
       → ReadsSince old.start old.calls old.moment t s ⊎ ((o : Files) × Reads old.start old.calls o × inside o s)
   pub keeps : (t : ℕ) (s : Files) → ReadsSince old.start old.calls old.moment t s → ReadsSince new.start new.calls new.moment t s
+  pub since : (t : ℕ) (s : Files) → t ≤ old.moment → ReadsSince new.start new.calls new.moment t s
+      → ReadsSince old.start old.calls old.moment t s ⊎ ReadsSince new.start new.calls new.moment old.moment s
 
 -- the same of a disk that may tell no content
 abbrev pub Leaves : (Files → Files → Type 0) → (Files → Files → Type 0) → Option Past → Option Past → Type 0
@@ -32,6 +34,73 @@ Exactly f o s = s ≡ f o
 -- nothing changes
 abbrev pub Unchanged : Files → Files → Type 0
 Unchanged o s = s ≡ o
+
+-- the same bytes, and no place is pending that wasn't
+abbrev pub IsSyncedFile : Option File → Option File → Type 0
+IsSyncedFile None None = Unit {0}
+IsSyncedFile (Some old) (Some new) = (new.bytes ≡ old.bytes) × ((i : ℕ) → IsPending new.pending i → IsPending old.pending i)
+IsSyncedFile None (Some new) = ⊥
+IsSyncedFile (Some old) None = ⊥
+
+-- what syncs leave: the same files with the same bytes, and no place pending that wasn't
+abbrev pub Syncs : Files → Files → Type 0
+Syncs o s = (n : FileName) → IsSyncedFile (finite.get o n) (finite.get s n)
+
+-- all files but those of these names are as they were
+abbrev pub SparesAllBut : (FileName → Type 0) → Files → Files → Type 0
+SparesAllBut Among o s = (n : FileName) → (Among n → ⊥) → finite.get s n ≡ finite.get o n
+
+-- Up to the moment m only syncs added to what may be left: what may be left since an earlier moment could be left of old, or comes from a reading of old by syncs, or may be left since m.
+abbrev pub SyncsUntil : ℕ → Past → Past → Type 0
+SyncsUntil m old new = (t : ℕ) (s : Files) → t ≤ old.moment → ReadsSince new.start new.calls new.moment t s
+    → ReadsSince old.start old.calls old.moment t s ⊎ ((o : Files) × Reads old.start old.calls o × Syncs o s) ⊎ ReadsSince new.start new.calls new.moment m s
+
+-- the same of a disk that may tell no content
+abbrev pub OnlySyncsUntil : ℕ → Option Past → Option Past → Type 0
+OnlySyncsUntil m None new = new ≡ None
+OnlySyncsUntil m (Some old) new = (p : Past) × (new ≡ Some p) × (old.moment ≤ m) × (m ≤ p.moment) × SyncsUntil m old p
+
+-- ---- which calls were made
+
+-- the call only asks
+abbrev pub IsAsking : Call → Type 0
+IsAsking listing = Unit {0}
+IsAsking (reading n) = Unit {0}
+IsAsking _ = ⊥
+
+-- further calls, each a list or a read
+pub record HasAsked (old new : Past) : Type 0 where
+  pub events : List Event
+  pub start : new.start ≡ old.start
+  pub calls : new.calls ≡ events ++ old.calls
+  pub each : All (λ e. IsAsking e.call) events
+
+-- the same of a disk that may tell no content
+abbrev pub OnlyAsks : Option Past → Option Past → Type 0
+OnlyAsks None new = new ≡ None
+OnlyAsks (Some old) new = (p : Past) × (new ≡ Some p) × HasAsked old p
+
+-- a list that answered Ok
+abbrev pub IsDoneList : Call → Outcome → Type 0
+IsDoneList listing fine = Unit {0}
+IsDoneList _ _ = ⊥
+
+-- the call only asks, or makes a file durable
+abbrev pub IsAskingOrSyncing : Call → Type 0
+IsAskingOrSyncing listing = Unit {0}
+IsAskingOrSyncing (reading n) = Unit {0}
+IsAskingOrSyncing (syncing n) = Unit {0}
+IsAskingOrSyncing _ = ⊥
+
+-- a list answered Ok, and behind it nothing but such calls was asked for
+abbrev pub AreNamesSettled : List Event → Type 0
+AreNamesSettled [] = ⊥
+AreNamesSettled (e ∷ es) = IsDoneList e.call e.outcome ⊎ (IsAskingOrSyncing e.call × AreNamesSettled es)
+
+-- the same of a disk that may tell no content
+abbrev pub HasSettledNames : Option Past → Type 0
+HasSettledNames None = Unit {0}
+HasSettledNames (Some p) = AreNamesSettled p.calls
 
 -- ---- what holds of all that is left
 

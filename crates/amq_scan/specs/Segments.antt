@@ -61,10 +61,28 @@ abbrev pub AreThere : ℕ → ℕ → Files → List Segment → Type 0
 AreThere wanted sure s [] = Unit {0}
 AreThere wanted sure s (g ∷ gs) = IsThere wanted sure s g × AreThere wanted (sure - length g.spots) s gs
 
+-- The file is there, its scan finds these records, and nothing of it is pending.
+pub record IsClosed (wanted : ℕ) (s : Files) (g : Segment) : Type 0 where
+  pub file : File
+  pub there : finite.get s g.name ≡ Some file
+  pub is : IsSegment wanted g file.bytes
+  pub still : (i : ℕ) → IsPending file.pending i → ⊥
+
+abbrev pub AreClosed : ℕ → Files → List Segment → Type 0
+AreClosed wanted s [] = Unit {0}
+AreClosed wanted s (g ∷ gs) = IsClosed wanted s g × AreClosed wanted s gs
+
 -- The directory has these data files, of which the first `sure` records are durable, and no other; and no control file. Files of other names may be there, and data files' names with fewer than 16 bytes.
 pub record IsDirectory (wanted sure : ℕ) (gs : List Segment) (s : Files) : Type 0 where
   pub ascending : AreAscending 0 gs
   pub there : AreThere wanted sure s gs
+  pub only : (n : FileName) (file : File) → IsTrue (is_data n) → 16 ≤ length file.bytes → finite.get s n ≡ Some file → IsNamed n gs
+  pub uncontrolled : finite.get s control_name ≡ None
+
+-- The directory has these data files, nothing of them is pending, and no other; and no control file.
+pub record IsClosedDirectory (wanted : ℕ) (gs : List Segment) (s : Files) : Type 0 where
+  pub ascending : AreAscending 0 gs
+  pub there : AreClosed wanted s gs
   pub only : (n : FileName) (file : File) → IsTrue (is_data n) → 16 ≤ length file.bytes → finite.get s n ≡ Some file → IsNamed n gs
   pub uncontrolled : finite.get s control_name ≡ None
 

@@ -21,7 +21,7 @@ mod tables;
 mod turn;
 
 pub use law::plain_result;
-pub use loading::Loading;
+pub use loading::{Loading, copy_spots};
 
 #[cfg(test)]
 mod tests;

@@ -42,6 +42,16 @@ impl Loading {
         }
     }
 
+    /// A load that was fed these records.
+    pub fn of_records(alloc: Global, records: Vec<Placed>) -> Loading
+        ensures { result ≡ records.items }
+    {
+        Loading {
+            alloc,
+            list: records,
+        }
+    }
+
     /// Takes in the records of one file, which come behind those of lesser files. After `NoMemory` it is
     /// unchanged.
     pub fn feed_file(&mut self, file: u64, spots: &[Spot<'_>]) -> Result<(), NoMemory>
@@ -84,7 +94,28 @@ impl Loading {
         highest_number(&self.list)
     }
 
-    /// The live records and the transactions in doubt of all that was fed.
+    /// The live records and the transactions in doubt, in memory of their own.
+    pub fn state(&self) -> Result<LoadState, NoMemory>
+        ensures { IfOk result (λ s. s ≡ result_of self.now) }
+    {
+        let Tables { effect, turns } = tables_of(self.alloc, &self.list)?;
+        let (live, _) = parts_of(self.alloc, live_records(self.alloc, effect)?)?;
+        let in_doubt = doubts_from(self.alloc, turns)?;
+        Ok(LoadState {
+            live: Items::of(live),
+            in_doubt: Items::of(in_doubt),
+        })
+    }
+
+    /// The records that were fed, handed back.
+    pub fn into_records(self) -> Vec<Placed>
+        ensures { result.items ≡ self }
+    {
+        let Loading { list, .. } = self;
+        list
+    }
+
+    /// The live records and the transactions in doubt of all that was fed, whose records are moved there.
     pub fn finish(self) -> Result<LoadState, NoMemory>
         ensures { IfOk result (λ s. s ≡ result_of self) }
     {
@@ -100,7 +131,7 @@ impl Loading {
 }
 
 /// Adds the records of a file in memory of their own, all of them or some at the front.
-fn copy_spots(
+pub fn copy_spots(
     alloc: Global,
     list: &mut Vec<Placed>,
     file: u64,

@@ -1,21 +1,21 @@
-use Rattle.std.proofs.Common.{inr, [], sym, subst, rules}
+use Rattle.std.proofs.Common.{[], sym, subst, rules, inl, inr, ⊎_elim}
 use Rattle.amq_model.specs.declared.config.Config.{Config}
-use Rattle.amq_cli.specs.Offline.{lists_of, HasRunOn, HasText, IsLoadedState, IsEnding}
+use Rattle.amq_cli.specs.Offline.{lists_of, HasRunOn, HasText, IsLoadedState, IsEnding, HasRunCause}
 use Rattle.amq_cli.specs.declared.status.Status.{Status}
-use Rattle.amq_cli.proofs.Reloading.{began}
-use Rattle.amq_cli.proofs.Recovering.{opened_so, come_nothing_new}
-use Rattle.amq_cli.proofs.Running.{begun_played, earlier_text, unopened_text, opening_ends}
+use Rattle.amq_cli.proofs.Recovering.{synced_nothing_new, begins_bare}
+use Rattle.amq_cli.proofs.Running.{begun_played, earlier_text, unopened_text, opening_ends, opening_cause, opens_partly}
+use Rattle.amq_model.specs.Legal.{rolled_back}
 use Rattle.amq_cli.proofs.run.run.Goals as goal
 
 pub run_on-requires-clause-begun : goal.run_on-requires-clause-begun
 run_on-requires-clause-begun g c =
+    let e = c.in-Ok.engine in
     let o = c.in-Ok.ensures.opened in
-    begun_played c.in-Ok.engine.config.buffer_timeout c.in-Ok.engine c.args.text.now.items _ o.1 o.2 o.4 o.5 c.in-Ok.ensures.lists c.requires.empty
+    begun_played e.config.buffer_timeout e e.chronicle.base c.args.text.now.items o.1 o.3 o.4 c.in-Ok.ensures.chronicle.history c.in-Ok.ensures.rolled c.in-Ok.ensures.chronicle.last c.requires.empty
 
 pub returns-in-Ok-clause-run : goal.returns-in-Ok-clause-run
 returns-in-Ok-clause-run g c = λ done. record {
-  empty = c.in-Ok.ensures.empty;
-  began = began c.run_on.result.2.base (g.D.Disk.past c.args.disk) c.run_on.ensures.base c.in-Ok.ensures.empty;
+  began = search rules;
   ran = subst (λ (k : Config). HasRunOn k c.args.lines.items c.run_on.new.text.items (g.D.Disk.past c.run_on.result.1) c.run_on.result.2.base c.run_on.result.2.steps.items c.run_on.result.2.receipts.items) c.in-Ok.ensures.opened.0 (c.run_on.ensures.run done);
 }
 
@@ -36,13 +36,20 @@ returns-in-Err-clause-text g c =
     let lines = c.args.lines.items in
     let loaded = IsLoadedState (g.D.Disk.past disk) c.args.config.user_version kept.base kept.steps.items in
     let ends = subst (λ (s : Status). IsEnding s loaded (g.D.Disk.faults c.args.disk) (g.D.Disk.faults disk) lines [] []) (sym c.status_of_opening.ensures) (opening_ends c.in-Err.field-0.fault loaded (g.D.Disk.faults c.args.disk) (g.D.Disk.faults disk) lines) in
-    unopened_text c.args.config.buffer_timeout c.status_of_opening.result loaded lines (g.D.Disk.faults c.args.disk) (g.D.Disk.faults disk) kept.steps.items kept.receipts.items c.args.text.now.items (search rules) c.requires.empty ends
+    let none = (opens_partly 1 (rolled_back kept.base) kept.steps.items c.in-Err.ensures.failed_legal.opening).0 in
+    unopened_text c.args.config.buffer_timeout c.status_of_opening.result loaded lines (g.D.Disk.faults c.args.disk) (g.D.Disk.faults disk) kept.steps.items kept.receipts.items c.args.text.now.items none c.requires.empty ends
 
-pub returns-in-Ok-clause-opened : goal.returns-in-Ok-clause-opened
-returns-in-Ok-clause-opened g c = inr (began c.run_on.result.2.base (g.D.Disk.past c.args.disk) c.run_on.ensures.base c.in-Ok.ensures.empty)
-
-pub returns-in-Err-clause-opened : goal.returns-in-Err-clause-opened
-returns-in-Err-clause-opened g c = opened_so c.in-Err.field-0.chronicle.receipts.items c.in-Err.field-0.chronicle.base (g.D.Disk.past c.args.disk) (search rules) c.in-Err.ensures.failed_empty
+pub returns-in-Err-clause-cause : goal.returns-in-Err-clause-cause
+returns-in-Err-clause-cause g c =
+    let lists = lists_of c.in-Err.field-0.chronicle in
+    let old = g.D.Disk.past c.args.disk in
+    let new = g.D.Disk.past c.in-Err.field-0.disk in
+    let was = g.D.Disk.faults c.args.disk in
+    let now = g.D.Disk.faults c.in-Err.field-0.disk in
+    subst (λ (s : Status). HasRunCause c.args.config lists s old new was now) (sym c.status_of_opening.ensures) (opening_cause c.args.config lists c.in-Err.field-0.fault old new was now c.in-Err.ensures.cause)
 
 pub returns-in-Err-clause-nothing_new : goal.returns-in-Err-clause-nothing_new
-returns-in-Err-clause-nothing_new g c = come_nothing_new (g.D.Disk.moment c.args.disk) (g.D.Disk.past c.args.disk) (g.D.Disk.past c.in-Err.field-0.disk) (lists_of c.in-Err.field-0.chronicle) c.in-Err.ensures.failed_come
+returns-in-Err-clause-nothing_new g c none = synced_nothing_new (g.D.Disk.past c.args.disk) (g.D.Disk.past c.in-Err.field-0.disk) (begins_bare (g.D.Disk.past c.args.disk) (g.D.Disk.past c.in-Err.field-0.disk) c.in-Err.field-0.chronicle.receipts.items none c.in-Err.ensures.failed_begins)
+
+pub returns-in-Err-clause-opened : goal.returns-in-Err-clause-opened
+returns-in-Err-clause-opened g c = ⊎_elim (λ blank. inl blank.2) (λ based. inr based) c.in-Err.ensures.failed_base

@@ -1,4 +1,4 @@
-use Rattle.std.proofs.Common.{◌≡◌, ◌⊎◌, inr, ℕ, [], sym, ap, subst, ◌∙◌, rules}
+use Rattle.std.proofs.Common.{◌≡◌, ◌⊎◌, inr, ℕ, sym, ap, subst, ◌∙◌}
 use Rattle.std.specs.Prelude.{IsSome}
 use Rattle.amq_model.specs.declared.config.Config.{Config}
 use Rattle.amq_model.specs.Answers.{history_of}
@@ -6,20 +6,12 @@ use Rattle.amq_model.specs.Leaves.{Told}
 use Rattle.amq_engine.specs.Directory.{IsJournal}
 use Rattle.amq_engine.specs.Receipts.{IsCrashSafe}
 use Rattle.amq_cli.specs.Offline.{IsReported, HasRunOn, HasText, HasDiskCause, IsLoadedState, lists_of}
-use Rattle.amq_cli.specs.Loaded.{HasFilesTo}
 use Rattle.amq_cli.specs.declared.status.Status.TheVariants.{Ok}
 use Rattle.amq_cli.proofs.Recovering.{safe_still}
-use Rattle.amq_cli.proofs.Reloading.{are_there, has_run_on, never_done, closed_so}
+use Rattle.amq_cli.proofs.Loading.{has_run_on, never_done, closed_so}
 use Rattle.amq_cli.proofs.Running.{replayed_closed, ended_closed, reported_text, unreported_text, refused_text, refusal_status, named_refusal}
 use Rattle.amq_cli.proofs.run.run_on.Goals as goal
 use Rattle.amq_cli.proofs.run.run_on.Goals.{in-Ok+in-Ok-closed, in-Ok+in-Err-closed, in-Err}
-
-pub add_report-requires-clause-there : goal.add_report-requires-clause-there
-add_report-requires-clause-there g c =
-    let played = c.replay-played.new.engine in
-    let closed = g.D.Disk.past c.close-disk.result.0 in
-    let there = are_there closed played.config.user_version played.file played.highest (history_of c.close-disk.result.1.steps.items) (closed_so c.close-disk.result.2 c.in-Ok-closed.field-0 _ c.in-Ok-closed.is c.close-disk.ensures.content) in
-    subst (λ (last : ℕ). Told closed (HasFilesTo last)) (sym c.file-last.ensures.id) there
 
 pub returns-clause-run : goal.returns-clause-run
 returns-clause-run g c =
@@ -32,10 +24,9 @@ returns-clause-run g c =
       | in-Ok+in-Ok-closed w ↦ (λ done.
           let before = c.replay-played.new.text.items in
           let replayed = replayed_closed config.buffer_timeout lines (lists_of played.chronicle) (lists_of kept) _ _ _ c.close-disk.ensures.receipt before w.in-Ok.ensures.replayed in
-          let journal : Told closed (IsJournal config.user_version played.file played.highest (history_of kept.steps.items)) = subst (λ (k : Config). Told closed (IsJournal k.user_version played.file played.highest (history_of kept.steps.items))) c.replay-played.ensures.same.0 (closed_so c.close-disk.result.2 w.in-Ok-closed.field-0 _ w.in-Ok-closed.is c.close-disk.ensures.content) in
-          let none : kept.base ≡ [] = search rules in
-          let reported = subst (λ (last : ℕ). IsReported last before w.add_report.new.text.items closed (g.D.Disk.past w.add_report.new.disk)) c.file-last.ensures.id (w.add_report.ensures.reported (sym w.status-is ∙ done)) in
-          let ran = has_run_on config played.file played.highest lines before w.add_report.new.text.items kept.base kept.steps.items kept.receipts.items closed (g.D.Disk.past w.add_report.new.disk) replayed none journal reported in
+          let journal : Told closed (IsJournal config.user_version kept.base (history_of kept.steps.items)) = subst (λ (k : Config). Told closed (IsJournal k.user_version kept.base (history_of kept.steps.items))) c.replay-played.ensures.same.0 (closed_so c.close-disk.result.2 w.in-Ok-closed.field-0 _ w.in-Ok-closed.is c.close-disk.ensures.content) in
+          let reported = subst (λ (wanted : ℕ). IsReported wanted before w.add_report.new.text.items closed (g.D.Disk.past w.add_report.new.disk)) c.requires.version (w.add_report.ensures.reported (sym w.status-is ∙ done)) in
+          let ran = has_run_on config lines before w.add_report.new.text.items kept.base kept.steps.items kept.receipts.items closed (g.D.Disk.past w.add_report.new.disk) replayed journal reported in
           subst (λ d. HasRunOn config lines c.match-played.text.items (g.D.Disk.past d) kept.base kept.steps.items kept.receipts.items) (sym w.disk-is) (subst (λ t. HasRunOn config lines t.items (g.D.Disk.past w.add_report.new.disk) kept.base kept.steps.items kept.receipts.items) (sym w.text-is) ran))
       | in-Ok+in-Err-closed w ↦ (λ done. absurd (never_done _ (sym w.status_of_refusal.ensures ∙ sym w.status-is ∙ done)))
       | in-Err w ↦ (λ done. absurd (never_done _ (sym w.status_of_refusal-status.ensures ∙ sym w.status-is ∙ done)))

@@ -1,121 +1,204 @@
-use Rattle.std.proofs.Common.{◌≡◌, ◌+◌, [], ◌∷◌, length, refl, sym, ap, subst, ◌∙◌, arith, rules}
-use Rattle.std.specs.Prelude.{vec_len, option_map}
-use Rattle.std.proofs.lemmas.Bool.{eqb-true, eqb-false}
-use Rattle.std.proofs.lemmas.List.{nil_from_length}
-use Rattle.amq_io.specs.Faults.{as_error}
-use Rattle.amq_model.specs.Leaves.{Leaves}
-use Rattle.amq_pool.specs.Pools.{PoolOf, numbered_file, with_next, with_first, Making, Made}
-use Rattle.amq_engine.specs.Engine.{IsValid}
+use Rattle.std.proofs.Common.{◌≡◌, ◌⊎◌, inl, ◌-◌, ◌^◌, ◌<◌, ◌≤◌, List, [], length, option_map, refl, sym, ap, subst, ◌∙◌, arith}
+use Rattle.std.specs.Prelude.{IfSome}
+use Rattle.amq_model.specs.declared.record.Placed.{Placed}
+use Rattle.amq_model.specs.declared.directory.OpenFault.{OpenFault}
+use Rattle.amq_model.specs.Leaves.{Told, HoldsSince}
+use Rattle.amq_tx.specs.Tables.{state_of}
+use Rattle.amq_pool.specs.declared.pool.PoolFile.{PoolFile}
+use Rattle.amq_pool.specs.Pools.{PoolOf}
 use Rattle.amq_engine.specs.Lists.{with_base, with_receipt}
-use Rattle.amq_engine.proofs.Begun.{first_is, rest_is, empty_told, some_told, begun_valid, begun_safe, listed_only, some_if}
+use Rattle.amq_engine.specs.Engine.{Holds, IsBlank}
+use Rattle.amq_engine.specs.Opening.{HasBase, HasOpenCause}
+use Rattle.amq_engine.proofs.Begun.{IsNoted, noted, noted_safe, base_now, begun_valid, blank_safe, still_blank, noted_steps, noted_base, noted_begins, noted_lists, told_begun, behind_fault, when_fine}
 use Rattle.amq_engine.proofs.Commanding.{when_err}
+use Rattle.amq_engine.proofs.Beginning.{begins_blank}
 use Rattle.amq_engine.proofs.opening.begin.Goals as goal
-use Rattle.amq_engine.proofs.opening.begin.Goals.{then-is_err-via-then-is_err, then-is_err-via-else-is_err+then-is_err-2}
 
-pub returns-then-not-is_empty-clause-cause : goal.returns-then-not-is_empty-clause-cause
-returns-then-not-is_empty-clause-cause g c =
-    let len_is : vec_len c.in-Ok.infos ≡ length c.in-Ok.infos.items = search rules in
-    let some : vec_len c.in-Ok.infos ≡ 0 → ⊥ = eqb-false _ _ (sym c.if-not-is_empty.ensures) in
-    (c.in-Ok.ensures.note, some_told c.in-Ok.infos.items (g.D.Disk.past c.args.disk.now) (λ none. some (len_is ∙ ap length none)) c.in-Ok.ensures.listed)
-
-pub returns-in-Err-clause-come : goal.returns-in-Err-clause-come
-returns-in-Err-clause-come g c = listed_only (g.D.Disk.moment c.args.disk.now) (as_error c.list.result) (g.C.Chronicle.lists c.args.chronicle.now) (g.C.Chronicle.lists c.args.chronicle.now) (g.D.Disk.past c.args.disk.now) (g.D.Disk.past c.list.new.disk) refl c.requires.blank c.list.ensures.note
-
-pub returns-then-not-is_empty-clause-come : goal.returns-then-not-is_empty-clause-come
-returns-then-not-is_empty-clause-come g c = listed_only (g.D.Disk.moment c.args.disk.now) (as_error c.list.result) (g.C.Chronicle.lists c.args.chronicle.now) (g.C.Chronicle.lists c.args.chronicle.now) (g.D.Disk.past c.args.disk.now) (g.D.Disk.past c.list.new.disk) refl c.requires.blank c.list.ensures.note
-
-pub returns-then-is_err-clause-come : goal.returns-then-is_err-clause-come
-returns-then-is_err-clause-come g c =
+-- where nothing was noted the chronicle is blank
+pub returns-then-is_err-clause-unstepped : goal.returns-then-is_err-clause-unstepped
+returns-then-is_err-clause-unstepped g c =
     let lists = g.C.Chronicle.lists in
-    elim c.then-is_err.branch [
-      | then-is_err-via-then-is_err w ↦ listed_only (g.D.Disk.moment c.args.disk.now) (as_error c.list.result) (lists c.args.chronicle.now) (lists c.then-is_err.chronicle) (g.D.Disk.past c.args.disk.now) (g.D.Disk.past c.list.new.disk) (ap lists w.chronicle-is ∙ c.room.ensures.same) c.requires.blank c.list.ensures.note
-      | then-is_err-via-else-is_err+then-is_err-2 w ↦ (let same : lists w.base.new.self ≡ lists c.room.new.self = when_err w.base.result (lists w.base.new.self ≡ lists c.room.new.self) (sym w.is_err-else-is_err.ensures.value ∙ w.if-is_err-2.true) w.base.ensures.err in
-          listed_only (g.D.Disk.moment c.args.disk.now) (as_error c.list.result) (lists c.args.chronicle.now) (lists c.then-is_err.chronicle) (g.D.Disk.past c.args.disk.now) (g.D.Disk.past c.list.new.disk) (ap lists w.chronicle-is ∙ same ∙ c.room.ensures.same) c.requires.blank c.list.ensures.note)
-    ]
+    let same : lists c.note.new.chronicle ≡ lists c.args.chronicle.now = when_err c.note.result (lists c.note.new.chronicle ≡ lists c.args.chronicle.now) (sym c.is_err.ensures.value ∙ c.if-is_err.true) c.note.ensures.err in
+    still_blank (λ l. l.steps ≡ []) (lists c.args.chronicle.now) (lists c.note.new.chronicle) same (λ l blank. blank.1) c.requires.blank
 
-pub returns-in-Err-Disk-clause-crash_safe : goal.returns-in-Err-Disk-clause-crash_safe
-returns-in-Err-Disk-clause-crash_safe g c =
+pub returns-then-is_err-clause-crash_safe : goal.returns-then-is_err-clause-crash_safe
+returns-then-is_err-clause-crash_safe g c =
+    let lists = g.C.Chronicle.lists in
+    let same : lists c.note.new.chronicle ≡ lists c.args.chronicle.now = when_err c.note.result (lists c.note.new.chronicle ≡ lists c.args.chronicle.now) (sym c.is_err.ensures.value ∙ c.if-is_err.true) c.note.ensures.err in
+    blank_safe (g.D.Disk.past c.find.new.disk) (g.D.Disk.moment c.find.new.disk) c.args.config.now.user_version (lists c.args.chronicle.now) (lists c.note.new.chronicle) same c.requires.blank
+
+pub returns-then-is_err-clause-base : goal.returns-then-is_err-clause-base
+returns-then-is_err-clause-base g c =
+    let lists = g.C.Chronicle.lists in
+    let same : lists c.note.new.chronicle ≡ lists c.args.chronicle.now = when_err c.note.result (lists c.note.new.chronicle ≡ lists c.args.chronicle.now) (sym c.is_err.ensures.value ∙ c.if-is_err.true) c.note.ensures.err in
+    still_blank (λ l. IsBlank l ⊎ Told (g.D.Disk.past c.args.disk.now) (HasBase c.args.config.now.user_version l.base)) (lists c.args.chronicle.now) (lists c.note.new.chronicle) same (λ l blank. inl blank) c.requires.blank
+
+pub returns-in-Ok-clause-valid : goal.returns-in-Ok-clause-valid
+returns-in-Ok-clause-valid g c buffer fresh =
     let past = g.D.Disk.past in
     let lists = g.C.Chronicle.lists in
     let config = c.args.config.now in
-    let none_len : vec_len c.in-Ok.infos ≡ 0 = eqb-true _ _ (sym c.if-not-is_empty.ensures) in
-    let len_is : vec_len c.in-Ok.infos ≡ length c.in-Ok.infos.items = search rules in
-    let none : c.in-Ok.infos.items ≡ [] = nil_from_length c.in-Ok.infos.items (sym len_is ∙ none_len) in
-    let P : PoolOf → Type 0 = λ p. Leaves (Making p.config (p.highest + 1)) (Making p.config (p.highest + 1)) (past c.list.new.disk) (past c.prepare_step.new.disk) in
-    let went = subst P c.new-pool.ensures.value c.prepare_step.ensures.crash in
-    let based : lists c.base.new.self ≡ option_map (with_base []) (lists c.room.new.self) = search rules in
-    let noted : lists c.receipt.new.self ≡ option_map (with_receipt 0 c.moment-moment.result) (option_map (with_base []) (lists c.args.chronicle.now)) = cc in
-    begun_safe config c.requires.config c.in-Ok.infos.items (past c.args.disk.now) (past c.list.new.disk) (past c.prepare_step.new.disk) none c.in-Ok.ensures.listed c.in-Ok.ensures.note (Making config 1) went
-    c.moment-moment.result (g.D.Disk.moment c.prepare_step.new.disk) c.moment-moment.ensures.told (omega (arith, c.moment-moment.ensures.count, c.prepare_step.ensures.later)) (lists c.args.chronicle.now) (lists c.receipt.new.self) c.requires.blank noted
+    let loaded = c.in_ok-loaded.field-0.loaded in
+    let m = c.moment.result in
+    let is : lists c.note.new.chronicle ≡ option_map (with_receipt 0 m) (option_map (with_base loaded.base) (lists c.args.chronicle.now)) =
+    when_fine c.note.result (lists c.note.new.chronicle ≡ option_map (with_receipt 0 m) (option_map (with_base c.replace-base.result) (lists c.args.chronicle.now))) (sym c.is_err.ensures.value ∙ c.if-is_err.false) c.note.ensures.ok
+    ∙ ap (λ (b : List Placed). option_map (with_receipt 0 m) (option_map (with_base b) (lists c.args.chronicle.now))) c.replace-base.ensures.value in
+    let notes : IfSome (lists c.note.new.chronicle) (IsNoted loaded.base m) = noted loaded.base m (lists c.args.chronicle.now) (lists c.note.new.chronicle) c.requires.blank is in
+    let holds : m < 2 ^ 64 - 1 → HoldsSince (past c.renew.new.disk) m (Holds config.user_version loaded.base 0 []) =
+    λ early. c.renew.ensures.kept loaded.base m c.in_ok-loaded.ensures.base (base_now config.user_version loaded.highest_file m loaded.base (past c.find.new.disk) c.in_ok-loaded.ensures.base c.moment.ensures.told early) in
+    let on : m ≤ g.D.Disk.moment c.renew.new.disk = omega (arith, c.moment.ensures.count, c.renew.ensures.later) in (
+      loaded.base,
+      begun_valid config c.requires.config loaded.highest_file c.in_ok-loaded.ensures.unspent loaded.base (past c.find.new.disk) (past c.renew.new.disk) c.in_ok-loaded.ensures.base m (g.D.Disk.moment c.renew.new.disk)
+          (lists c.note.new.chronicle) (g.C.Chronicle.receipt_room c.note.new.chronicle) (state_of c.in_ok-loaded.field-0.table) buffer c.in-Ok.pool c.in-Ok.file on holds (c.in-Ok.ensures.stands loaded.base c.in_ok-loaded.ensures.base)
+          notes c.in_ok-loaded.ensures.table fresh c.in-Ok.ensures.pool c.in-Ok.ensures.is c.in-Ok.ensures.file,
+      c.in_ok-loaded.ensures.rollbacks,
+      c.in_ok-loaded.ensures.state,
+    )
 
-pub returns-in-Err-NoMemory-clause-crash_safe : goal.returns-in-Err-NoMemory-clause-crash_safe
-returns-in-Err-NoMemory-clause-crash_safe g c =
+pub returns-in-Ok-clause-lists : goal.returns-in-Ok-clause-lists
+returns-in-Ok-clause-lists g c =
     let past = g.D.Disk.past in
     let lists = g.C.Chronicle.lists in
     let config = c.args.config.now in
-    let none_len : vec_len c.in-Ok.infos ≡ 0 = eqb-true _ _ (sym c.if-not-is_empty.ensures) in
-    let len_is : vec_len c.in-Ok.infos ≡ length c.in-Ok.infos.items = search rules in
-    let none : c.in-Ok.infos.items ≡ [] = nil_from_length c.in-Ok.infos.items (sym len_is ∙ none_len) in
-    let P : PoolOf → Type 0 = λ p. Leaves (Making p.config (p.highest + 1)) (Making p.config (p.highest + 1)) (past c.list.new.disk) (past c.prepare_step.new.disk) in
-    let went = subst P c.new-pool.ensures.value c.prepare_step.ensures.crash in
-    let based : lists c.base.new.self ≡ option_map (with_base []) (lists c.room.new.self) = search rules in
-    let noted : lists c.receipt.new.self ≡ option_map (with_receipt 0 c.moment-moment.result) (option_map (with_base []) (lists c.args.chronicle.now)) = cc in
-    begun_safe config c.requires.config c.in-Ok.infos.items (past c.args.disk.now) (past c.list.new.disk) (past c.prepare_step.new.disk) none c.in-Ok.ensures.listed c.in-Ok.ensures.note (Making config 1) went
-    c.moment-moment.result (g.D.Disk.moment c.prepare_step.new.disk) c.moment-moment.ensures.told (omega (arith, c.moment-moment.ensures.count, c.prepare_step.ensures.later)) (lists c.args.chronicle.now) (lists c.receipt.new.self) c.requires.blank noted
+    let loaded = c.in_ok-loaded.field-0.loaded in
+    let m = c.moment.result in
+    let is : lists c.note.new.chronicle ≡ option_map (with_receipt 0 m) (option_map (with_base loaded.base) (lists c.args.chronicle.now)) =
+    when_fine c.note.result (lists c.note.new.chronicle ≡ option_map (with_receipt 0 m) (option_map (with_base c.replace-base.result) (lists c.args.chronicle.now))) (sym c.is_err.ensures.value ∙ c.if-is_err.false) c.note.ensures.ok
+    ∙ ap (λ (b : List Placed). option_map (with_receipt 0 m) (option_map (with_base b) (lists c.args.chronicle.now))) c.replace-base.ensures.value in
+    let notes : IfSome (lists c.note.new.chronicle) (IsNoted loaded.base m) = noted loaded.base m (lists c.args.chronicle.now) (lists c.note.new.chronicle) c.requires.blank is in
+    noted_lists loaded.base m (lists c.note.new.chronicle) notes (λ b. Told (past c.args.disk.now) (HasBase config.user_version b)) c.in_ok-loaded.ensures.has_base
 
-pub returns-clause-valid : goal.returns-clause-valid
-returns-clause-valid g c table buffer follows fresh =
-    let past = g.D.Disk.past in
-    let lists = g.C.Chronicle.lists in
-    let room = g.C.Chronicle.receipt_room in
-    let config = c.args.config.now in
-    let none_len : vec_len c.in-Ok.infos ≡ 0 = eqb-true _ _ (sym c.if-not-is_empty.ensures) in
-    let len_is : vec_len c.in-Ok.infos ≡ length c.in-Ok.infos.items = search rules in
-    let none : c.in-Ok.infos.items ≡ [] = nil_from_length c.in-Ok.infos.items (sym len_is ∙ none_len) in
-    let P : PoolOf → Type 0 = λ p. Leaves (Making p.config (p.highest + 1)) (Made p.config (p.highest + 1)) (past c.list.new.disk) (past c.prepare_step.new.disk) in
-    let went = subst P c.new-pool.ensures.value c.in-Ok-prepare_step.ensures.ok in
-    let based : lists c.base.new.self ≡ option_map (with_base []) (lists c.room.new.self) = search rules in
-    let noted : lists c.receipt.new.self ≡ option_map (with_receipt 0 c.moment-moment.result) (option_map (with_base []) (lists c.args.chronicle.now)) = cc in
-    let one : c.prepare_step.new.self ≡ record { config = config; highest = 1; prepared = numbered_file 1 ∷ [] } = c.in-Ok-prepare_step.ensures.prepared ∙ ap with_next c.new-pool.ensures.value in
-    let both : (let p : PoolOf = record { config = config; highest = 1; prepared = numbered_file 1 ∷ [] } in p) ≡ with_first c.in-Some.file c.take.new.self = sym one ∙ c.in-Some.ensures.file in
-    let file : numbered_file 1 ≡ c.in-Some.file = first_is _ _ [] c.take.new.self.prepared (ap (λ (p : PoolOf). p.prepared) both) in
-    let rest : c.take.new.self ≡ record { config = config; highest = 1; prepared = [] } = rest_is config 1 [] (numbered_file 1) c.in-Some.file c.take.new.self both in
-    subst (λ f. IsValid (past c.prepare_step.new.disk) (g.D.Disk.moment c.prepare_step.new.disk) (lists c.receipt.new.self) (room c.receipt.new.self) config table c.take.new.self (record { file = f; buffer = buffer; end = 16; appended = 0; durable = 0 })) file
-    (begun_valid config c.requires.config c.in-Ok.infos.items (past c.args.disk.now) (past c.list.new.disk) (past c.prepare_step.new.disk) none c.in-Ok.ensures.listed c.in-Ok.ensures.note went
-    c.moment-moment.result (g.D.Disk.moment c.prepare_step.new.disk) c.moment-moment.ensures.told (omega (arith, c.moment-moment.ensures.count, c.prepare_step.ensures.later)) (lists c.args.chronicle.now) (lists c.receipt.new.self) (room c.receipt.new.self) table buffer c.take.new.self c.requires.blank noted follows fresh rest c.take.ensures.is)
+pub returns-in-Ok-clause-numbers : goal.returns-in-Ok-clause-numbers
+returns-in-Ok-clause-numbers g c =
+    let loaded = c.in_ok-loaded.field-0.loaded in
+    told_begun (length loaded.files) loaded.highest_file c.in-Ok.file.id c.len-files.result (g.D.Disk.past c.args.disk.now) (ap (λ f. f.id) c.in-Ok.ensures.file) c.len-files.ensures c.in_ok-loaded.ensures.unspent c.in_ok-loaded.ensures.numbers
 
-pub returns-clause-empty : goal.returns-clause-empty
-returns-clause-empty g c =
-    let none_len : vec_len c.in-Ok.infos ≡ 0 = eqb-true _ _ (sym c.if-not-is_empty.ensures) in
-    let len_is : vec_len c.in-Ok.infos ≡ length c.in-Ok.infos.items = search rules in
-    empty_told c.in-Ok.infos.items (g.D.Disk.past c.args.disk.now) (nil_from_length c.in-Ok.infos.items (sym len_is ∙ none_len)) c.in-Ok.ensures.listed
-
-pub returns-clause-failed_empty : goal.returns-clause-failed_empty
-returns-clause-failed_empty g c = some_if (λ l. l.receipts ≡ []) _ (g.C.Chronicle.lists c.receipt.new.self) (returns-clause-empty g c)
-
-pub returns-in-Err-Disk-clause-failed_empty : goal.returns-in-Err-Disk-clause-failed_empty
-returns-in-Err-Disk-clause-failed_empty g c =
-    let none_len : vec_len c.in-Ok.infos ≡ 0 = eqb-true _ _ (sym c.if-not-is_empty.ensures) in
-    let len_is : vec_len c.in-Ok.infos ≡ length c.in-Ok.infos.items = search rules in
-    some_if (λ l. l.receipts ≡ []) _ (g.C.Chronicle.lists c.receipt.new.self) (empty_told c.in-Ok.infos.items (g.D.Disk.past c.args.disk.now) (nil_from_length c.in-Ok.infos.items (sym len_is ∙ none_len)) c.in-Ok.ensures.listed)
-
-pub returns-in-Err-NoMemory-clause-failed_empty : goal.returns-in-Err-NoMemory-clause-failed_empty
-returns-in-Err-NoMemory-clause-failed_empty g c =
-    let none_len : vec_len c.in-Ok.infos ≡ 0 = eqb-true _ _ (sym c.if-not-is_empty.ensures) in
-    let len_is : vec_len c.in-Ok.infos ≡ length c.in-Ok.infos.items = search rules in
-    some_if (λ l. l.receipts ≡ []) _ (g.C.Chronicle.lists c.receipt.new.self) (empty_told c.in-Ok.infos.items (g.D.Disk.past c.args.disk.now) (nil_from_length c.in-Ok.infos.items (sym len_is ∙ none_len)) c.in-Ok.ensures.listed)
-
-pub returns-clause-crash_safe : goal.returns-clause-crash_safe
-returns-clause-crash_safe g c =
+pub returns-in-Ok-clause-unstepped : goal.returns-in-Ok-clause-unstepped
+returns-in-Ok-clause-unstepped g c =
     let past = g.D.Disk.past in
     let lists = g.C.Chronicle.lists in
     let config = c.args.config.now in
-    let none_len : vec_len c.in-Ok.infos ≡ 0 = eqb-true _ _ (sym c.if-not-is_empty.ensures) in
-    let len_is : vec_len c.in-Ok.infos ≡ length c.in-Ok.infos.items = search rules in
-    let none : c.in-Ok.infos.items ≡ [] = nil_from_length c.in-Ok.infos.items (sym len_is ∙ none_len) in
-    let P : PoolOf → Type 0 = λ p. Leaves (Making p.config (p.highest + 1)) (Making p.config (p.highest + 1)) (past c.list.new.disk) (past c.prepare_step.new.disk) in
-    let went = subst P c.new-pool.ensures.value c.prepare_step.ensures.crash in
-    let based : lists c.base.new.self ≡ option_map (with_base []) (lists c.room.new.self) = search rules in
-    let noted : lists c.receipt.new.self ≡ option_map (with_receipt 0 c.moment-moment.result) (option_map (with_base []) (lists c.args.chronicle.now)) = cc in
-    begun_safe config c.requires.config c.in-Ok.infos.items (past c.args.disk.now) (past c.list.new.disk) (past c.prepare_step.new.disk) none c.in-Ok.ensures.listed c.in-Ok.ensures.note (Making config 1) went
-    c.moment-moment.result (g.D.Disk.moment c.prepare_step.new.disk) c.moment-moment.ensures.told (omega (arith, c.moment-moment.ensures.count, c.prepare_step.ensures.later)) (lists c.args.chronicle.now) (lists c.receipt.new.self) c.requires.blank noted
+    let loaded = c.in_ok-loaded.field-0.loaded in
+    let m = c.moment.result in
+    let is : lists c.note.new.chronicle ≡ option_map (with_receipt 0 m) (option_map (with_base loaded.base) (lists c.args.chronicle.now)) =
+    when_fine c.note.result (lists c.note.new.chronicle ≡ option_map (with_receipt 0 m) (option_map (with_base c.replace-base.result) (lists c.args.chronicle.now))) (sym c.is_err.ensures.value ∙ c.if-is_err.false) c.note.ensures.ok
+    ∙ ap (λ (b : List Placed). option_map (with_receipt 0 m) (option_map (with_base b) (lists c.args.chronicle.now))) c.replace-base.ensures.value in
+    let notes : IfSome (lists c.note.new.chronicle) (IsNoted loaded.base m) = noted loaded.base m (lists c.args.chronicle.now) (lists c.note.new.chronicle) c.requires.blank is in
+    noted_steps loaded.base m (lists c.note.new.chronicle) notes
+
+pub returns-in-Ok-clause-crash_safe : goal.returns-in-Ok-clause-crash_safe
+returns-in-Ok-clause-crash_safe g c =
+    let past = g.D.Disk.past in
+    let lists = g.C.Chronicle.lists in
+    let config = c.args.config.now in
+    let loaded = c.in_ok-loaded.field-0.loaded in
+    let m = c.moment.result in
+    let is : lists c.note.new.chronicle ≡ option_map (with_receipt 0 m) (option_map (with_base loaded.base) (lists c.args.chronicle.now)) =
+    when_fine c.note.result (lists c.note.new.chronicle ≡ option_map (with_receipt 0 m) (option_map (with_base c.replace-base.result) (lists c.args.chronicle.now))) (sym c.is_err.ensures.value ∙ c.if-is_err.false) c.note.ensures.ok
+    ∙ ap (λ (b : List Placed). option_map (with_receipt 0 m) (option_map (with_base b) (lists c.args.chronicle.now))) c.replace-base.ensures.value in
+    let notes : IfSome (lists c.note.new.chronicle) (IsNoted loaded.base m) = noted loaded.base m (lists c.args.chronicle.now) (lists c.note.new.chronicle) c.requires.blank is in
+    let holds : m < 2 ^ 64 - 1 → HoldsSince (past c.renew.new.disk) m (Holds config.user_version loaded.base 0 []) =
+    λ early. c.renew.ensures.kept loaded.base m c.in_ok-loaded.ensures.base (base_now config.user_version loaded.highest_file m loaded.base (past c.find.new.disk) c.in_ok-loaded.ensures.base c.moment.ensures.told early) in
+    let on : m ≤ g.D.Disk.moment c.renew.new.disk = omega (arith, c.moment.ensures.count, c.renew.ensures.later) in
+    noted_safe (past c.renew.new.disk) config loaded.base m (g.D.Disk.moment c.renew.new.disk) (lists c.note.new.chronicle) on holds notes
+
+pub returns-in-Ok-clause-base : goal.returns-in-Ok-clause-base
+returns-in-Ok-clause-base g c =
+    let past = g.D.Disk.past in
+    let lists = g.C.Chronicle.lists in
+    let config = c.args.config.now in
+    let loaded = c.in_ok-loaded.field-0.loaded in
+    let m = c.moment.result in
+    let is : lists c.note.new.chronicle ≡ option_map (with_receipt 0 m) (option_map (with_base loaded.base) (lists c.args.chronicle.now)) =
+    when_fine c.note.result (lists c.note.new.chronicle ≡ option_map (with_receipt 0 m) (option_map (with_base c.replace-base.result) (lists c.args.chronicle.now))) (sym c.is_err.ensures.value ∙ c.if-is_err.false) c.note.ensures.ok
+    ∙ ap (λ (b : List Placed). option_map (with_receipt 0 m) (option_map (with_base b) (lists c.args.chronicle.now))) c.replace-base.ensures.value in
+    let notes : IfSome (lists c.note.new.chronicle) (IsNoted loaded.base m) = noted loaded.base m (lists c.args.chronicle.now) (lists c.note.new.chronicle) c.requires.blank is in
+    noted_base loaded.base m (lists c.note.new.chronicle) notes (λ b. Told (past c.args.disk.now) (HasBase config.user_version b)) c.in_ok-loaded.ensures.has_base
+
+pub returns-in-Ok-clause-begins : goal.returns-in-Ok-clause-begins
+returns-in-Ok-clause-begins g c =
+    let past = g.D.Disk.past in
+    let lists = g.C.Chronicle.lists in
+    let config = c.args.config.now in
+    let loaded = c.in_ok-loaded.field-0.loaded in
+    let m = c.moment.result in
+    let is : lists c.note.new.chronicle ≡ option_map (with_receipt 0 m) (option_map (with_base loaded.base) (lists c.args.chronicle.now)) =
+    when_fine c.note.result (lists c.note.new.chronicle ≡ option_map (with_receipt 0 m) (option_map (with_base c.replace-base.result) (lists c.args.chronicle.now))) (sym c.is_err.ensures.value ∙ c.if-is_err.false) c.note.ensures.ok
+    ∙ ap (λ (b : List Placed). option_map (with_receipt 0 m) (option_map (with_base b) (lists c.args.chronicle.now))) c.replace-base.ensures.value in
+    let notes : IfSome (lists c.note.new.chronicle) (IsNoted loaded.base m) = noted loaded.base m (lists c.args.chronicle.now) (lists c.note.new.chronicle) c.requires.blank is in
+    noted_begins loaded.base m (lists c.note.new.chronicle) notes (past c.args.disk.now) (past c.find.new.disk) (past c.renew.new.disk) c.moment.ensures.told c.find.ensures.crash c.renew.ensures.goes_on
+
+pub returns-in-Err-clause-cause : goal.returns-in-Err-clause-cause
+returns-in-Err-clause-cause g c =
+    let past = g.D.Disk.past in
+    let faults = g.D.Disk.faults in
+    let lists = g.C.Chronicle.lists c.note.new.chronicle in
+    subst (λ (o : OpenFault). HasOpenCause c.args.config.now o lists (past c.args.disk.now) (past c.renew.new.disk) (faults c.args.disk.now) (faults c.renew.new.disk)) (sym c.fault_of.ensures)
+    (behind_fault (PoolOf × PoolFile) c.in-Err.fault c.args.config.now lists (past c.args.disk.now) (past c.renew.new.disk) (faults c.args.disk.now) (faults c.find.new.disk) (faults c.renew.new.disk) c.find.ensures.later c.in_ok-loaded.ensures.faults c.in-Err.ensures.cause)
+
+pub returns-in-Err-clause-unstepped : goal.returns-in-Err-clause-unstepped
+returns-in-Err-clause-unstepped g c =
+    let past = g.D.Disk.past in
+    let lists = g.C.Chronicle.lists in
+    let config = c.args.config.now in
+    let loaded = c.in_ok-loaded.field-0.loaded in
+    let m = c.moment.result in
+    let is : lists c.note.new.chronicle ≡ option_map (with_receipt 0 m) (option_map (with_base loaded.base) (lists c.args.chronicle.now)) =
+    when_fine c.note.result (lists c.note.new.chronicle ≡ option_map (with_receipt 0 m) (option_map (with_base c.replace-base.result) (lists c.args.chronicle.now))) (sym c.is_err.ensures.value ∙ c.if-is_err.false) c.note.ensures.ok
+    ∙ ap (λ (b : List Placed). option_map (with_receipt 0 m) (option_map (with_base b) (lists c.args.chronicle.now))) c.replace-base.ensures.value in
+    let notes : IfSome (lists c.note.new.chronicle) (IsNoted loaded.base m) = noted loaded.base m (lists c.args.chronicle.now) (lists c.note.new.chronicle) c.requires.blank is in
+    noted_steps loaded.base m (lists c.note.new.chronicle) notes
+
+pub returns-in-Err-clause-crash_safe : goal.returns-in-Err-clause-crash_safe
+returns-in-Err-clause-crash_safe g c =
+    let past = g.D.Disk.past in
+    let lists = g.C.Chronicle.lists in
+    let config = c.args.config.now in
+    let loaded = c.in_ok-loaded.field-0.loaded in
+    let m = c.moment.result in
+    let is : lists c.note.new.chronicle ≡ option_map (with_receipt 0 m) (option_map (with_base loaded.base) (lists c.args.chronicle.now)) =
+    when_fine c.note.result (lists c.note.new.chronicle ≡ option_map (with_receipt 0 m) (option_map (with_base c.replace-base.result) (lists c.args.chronicle.now))) (sym c.is_err.ensures.value ∙ c.if-is_err.false) c.note.ensures.ok
+    ∙ ap (λ (b : List Placed). option_map (with_receipt 0 m) (option_map (with_base b) (lists c.args.chronicle.now))) c.replace-base.ensures.value in
+    let notes : IfSome (lists c.note.new.chronicle) (IsNoted loaded.base m) = noted loaded.base m (lists c.args.chronicle.now) (lists c.note.new.chronicle) c.requires.blank is in
+    let holds : m < 2 ^ 64 - 1 → HoldsSince (past c.renew.new.disk) m (Holds config.user_version loaded.base 0 []) =
+    λ early. c.renew.ensures.kept loaded.base m c.in_ok-loaded.ensures.base (base_now config.user_version loaded.highest_file m loaded.base (past c.find.new.disk) c.in_ok-loaded.ensures.base c.moment.ensures.told early) in
+    let on : m ≤ g.D.Disk.moment c.renew.new.disk = omega (arith, c.moment.ensures.count, c.renew.ensures.later) in
+    noted_safe (past c.renew.new.disk) config loaded.base m (g.D.Disk.moment c.renew.new.disk) (lists c.note.new.chronicle) on holds notes
+
+pub returns-in-Err-clause-base : goal.returns-in-Err-clause-base
+returns-in-Err-clause-base g c =
+    let past = g.D.Disk.past in
+    let lists = g.C.Chronicle.lists in
+    let config = c.args.config.now in
+    let loaded = c.in_ok-loaded.field-0.loaded in
+    let m = c.moment.result in
+    let is : lists c.note.new.chronicle ≡ option_map (with_receipt 0 m) (option_map (with_base loaded.base) (lists c.args.chronicle.now)) =
+    when_fine c.note.result (lists c.note.new.chronicle ≡ option_map (with_receipt 0 m) (option_map (with_base c.replace-base.result) (lists c.args.chronicle.now))) (sym c.is_err.ensures.value ∙ c.if-is_err.false) c.note.ensures.ok
+    ∙ ap (λ (b : List Placed). option_map (with_receipt 0 m) (option_map (with_base b) (lists c.args.chronicle.now))) c.replace-base.ensures.value in
+    let notes : IfSome (lists c.note.new.chronicle) (IsNoted loaded.base m) = noted loaded.base m (lists c.args.chronicle.now) (lists c.note.new.chronicle) c.requires.blank is in
+    noted_base loaded.base m (lists c.note.new.chronicle) notes (λ b. Told (past c.args.disk.now) (HasBase config.user_version b)) c.in_ok-loaded.ensures.has_base
+
+pub returns-in-Err-clause-begins : goal.returns-in-Err-clause-begins
+returns-in-Err-clause-begins g c =
+    let past = g.D.Disk.past in
+    let lists = g.C.Chronicle.lists in
+    let config = c.args.config.now in
+    let loaded = c.in_ok-loaded.field-0.loaded in
+    let m = c.moment.result in
+    let is : lists c.note.new.chronicle ≡ option_map (with_receipt 0 m) (option_map (with_base loaded.base) (lists c.args.chronicle.now)) =
+    when_fine c.note.result (lists c.note.new.chronicle ≡ option_map (with_receipt 0 m) (option_map (with_base c.replace-base.result) (lists c.args.chronicle.now))) (sym c.is_err.ensures.value ∙ c.if-is_err.false) c.note.ensures.ok
+    ∙ ap (λ (b : List Placed). option_map (with_receipt 0 m) (option_map (with_base b) (lists c.args.chronicle.now))) c.replace-base.ensures.value in
+    let notes : IfSome (lists c.note.new.chronicle) (IsNoted loaded.base m) = noted loaded.base m (lists c.args.chronicle.now) (lists c.note.new.chronicle) c.requires.blank is in
+    noted_begins loaded.base m (lists c.note.new.chronicle) notes (past c.args.disk.now) (past c.find.new.disk) (past c.renew.new.disk) c.moment.ensures.told c.find.ensures.crash c.renew.ensures.goes_on
+
+-- before anything is noted there were syncs alone
+pub returns-in_err-loaded-clause-begins : goal.returns-in_err-loaded-clause-begins
+returns-in_err-loaded-clause-begins g c =
+    let lists = g.C.Chronicle.lists c.args.chronicle.now in
+    begins_blank lists lists (g.D.Disk.past c.args.disk.now) (g.D.Disk.past c.find.new.disk) refl c.requires.blank c.find.ensures.crash
+
+pub returns-then-is_err-clause-begins : goal.returns-then-is_err-clause-begins
+returns-then-is_err-clause-begins g c =
+    let lists = g.C.Chronicle.lists in
+    let same : lists c.note.new.chronicle ≡ lists c.args.chronicle.now = when_err c.note.result (lists c.note.new.chronicle ≡ lists c.args.chronicle.now) (sym c.is_err.ensures.value ∙ c.if-is_err.true) c.note.ensures.err in
+    begins_blank (lists c.args.chronicle.now) (lists c.note.new.chronicle) (g.D.Disk.past c.args.disk.now) (g.D.Disk.past c.find.new.disk) same c.requires.blank c.find.ensures.crash

@@ -1,5 +1,7 @@
 use Rattle.amq_io.specs.Faults.{as_error}
+use Rattle.amq_engine.specs.Puts.{Puts}
 use Rattle.amq_engine.proofs.Putting.{run2, try1, try2, there1}
+use Rattle.amq_engine.proofs.GoingOn.{goes_by}
 use Rattle.amq_engine.proofs.put.put.Goals as goal
 
 pub returns-in_err-write_at-clause-crash : goal.returns-in_err-write_at-clause-crash
@@ -49,3 +51,21 @@ sync-requires g c =
     let a = past c.args.disk.now in
     let b = past c.write_at.new.disk in
     there1 n c.args.place x a b c.requires.there c.in_ok-write_at.ensures.note
+
+pub returns-in_err-write_at-clause-goes_on : goal.returns-in_err-write_at-clause-goes_on
+returns-in_err-write_at-clause-goes_on g c =
+    let past = g.D.Disk.past in
+    let P = Puts c.args.name.now c.args.place c.args.bytes.now in
+    goes_by P P (past c.args.disk.now) (past c.write_at.new.disk) (returns-in_err-write_at-clause-crash g c)
+
+pub returns-in_err-sync-clause-goes_on : goal.returns-in_err-sync-clause-goes_on
+returns-in_err-sync-clause-goes_on g c =
+    let past = g.D.Disk.past in
+    let P = Puts c.args.name.now c.args.place c.args.bytes.now in
+    goes_by P P (past c.args.disk.now) (past c.sync.new.disk) (returns-in_err-sync-clause-crash g c)
+
+pub returns-clause-goes_on : goal.returns-clause-goes_on
+returns-clause-goes_on g c =
+    let past = g.D.Disk.past in
+    let P = Puts c.args.name.now c.args.place c.args.bytes.now in
+    goes_by P P (past c.args.disk.now) (past c.sync.new.disk) (returns-clause-crash g c)

@@ -1,8 +1,8 @@
-use Rattle.std.proofs.Common.{◌≡◌, inl, inr, ⊎_elim, ◌+◌, ◌-◌, ◌^◌, ◌<◌, ◌≤◌, ℕ, Bool, true, cond, length, List, [], Option, None, sym, ap, subst, ◌∙◌, arith}
-use Rattle.std.specs.Prelude.{IfSome, option_map, ◌||◌, ◌&&◌, is_some, nat_lt, Ok, Err}
+use Rattle.std.proofs.Common.{◌≡◌, inl, inr, ⊎_elim, ◌+◌, ◌-◌, ◌^◌, ◌<◌, ◌≤◌, ℕ, Bool, true, cond, length, List, [], ◌++◌, Option, None, refl, sym, ap, subst, ◌∙◌, arith}
+use Rattle.std.specs.Prelude.{IfSome, IsSome, option_map, ◌||◌, ◌&&◌, is_some, nat_lt, Ok, Err}
 use Rattle.amq_model.specs.Calls.{counted}
-use Rattle.amq_model.specs.Answers.{record_of, history_of}
-use Rattle.amq_model.specs.Legal.{number_for}
+use Rattle.amq_model.specs.Answers.{record_of, history_of, refusal}
+use Rattle.amq_model.specs.Legal.{number_for, rolled_back}
 use Rattle.amq_model.specs.declared.command.Reply.{Reply}
 use Rattle.amq_model.specs.declared.refusal.Refusal.{Refusal}
 use Rattle.amq_model.specs.declared.record.Record.{Record}
@@ -16,12 +16,15 @@ use Rattle.amq_tx.proofs.Refusals.{refusals_are}
 use Rattle.amq_pool.specs.Pools.{PoolOf, ids_of}
 use Rattle.amq_engine.specs.declared.tail.Tail.{Tail}
 use Rattle.amq_engine.specs.Lists.{Lists, with_step}
-use Rattle.amq_engine.specs.Engine.{IsChronicle, IsValid, Parts, IsReply, Notes, receipted, flushes, passes, spent, end_of_tail, readied, pool_readied, with_put, reply_of, placed_behind, fault_refusal, refused, record_len, prepares, is_nil}
+use Rattle.amq_engine.specs.Receipts.{GoesOn}
+use Rattle.amq_engine.specs.Engine.{IsChronicle, opened, IsSound, IsValid, Parts, IsReply, Notes, receipted, flushes, passes, spent, end_of_tail, readied, pool_readied, with_put, reply_of, placed_behind, fault_refusal, refused, record_len, prepares, is_nil}
 use Rattle.amq_engine.proofs.Sound.{sound_there, sound_within}
 use Rattle.amq_engine.proofs.Flushing.{written_durable, seen}
 use Rattle.amq_engine.proofs.Accepting.{written_first, reply_is, seen_accepted, values_of, not_closed}
-use Rattle.amq_engine.proofs.Commanding.{few_appends, small_id, count_fits, put_fits, numbers_left, table_accepts, valid_refused, valid_accepted, valid_chronicle, valid_room}
-use Rattle.amq_engine.proofs.Noting.{noted_refused, noted_failed, noted_accepted, fault_not_spent, spent_so, asks_nothing, fits_buffer, both_true, nil_is, is_nil_ids}
+use Rattle.amq_engine.proofs.Commanding.{few_appends, small_id, base_below, count_fits, put_fits, numbers_left, table_accepts, valid_refused, valid_accepted, valid_chronicle, valid_room}
+use Rattle.amq_engine.proofs.Stages.{opens_more}
+use Rattle.amq_engine.proofs.Noting.{noted_refused, noted_failed, noted_accepted, fault_not_spent, spent_so, asks_nothing, same_disk, nothing_refused, fits_buffer, both_true, nil_is, is_nil_ids}
+use Rattle.amq_engine.proofs.GoingOn.{goes_still}
 use Rattle.amq_engine.proofs.engine.Engine.command.Goals as goal
 
 pub returns-in-Some-clause-chronicle : goal.returns-in-Some-clause-chronicle
@@ -38,8 +41,8 @@ invariant_of-self g c =
     let past = g.D.Disk.past e.disk in
     let moment = g.D.Disk.moment e.disk in
     let table = state_of c.room_for.new.table in
-    let roomy = valid_room past moment (lists e.chronicle) (lists c.room_for.new.chronicle) (room e.chronicle) (room c.room_for.new.chronicle) e.config (state_of e.table) e.pool e.tail c.room_for.ensures.lists c.room_for.ensures.room c.self.invariant in
-    let same : IsValid past moment (lists c.room_for.new.chronicle) (room c.room_for.new.chronicle) e.config table e.pool e.tail = subst (λ (s : TxState). IsValid past moment (lists c.room_for.new.chronicle) (room c.room_for.new.chronicle) e.config s e.pool e.tail) (sym c.room_for.ensures.table) roomy in
+    let roomy = valid_room opened past moment (lists e.chronicle) (lists c.room_for.new.chronicle) (room e.chronicle) (room c.room_for.new.chronicle) e.config (state_of e.table) e.pool e.tail c.room_for.ensures.lists c.room_for.ensures.room c.self.invariant in
+    let same : IsValid opened past moment (lists c.room_for.new.chronicle) (room c.room_for.new.chronicle) e.config table e.pool e.tail = subst (λ (s : TxState). IsValid opened past moment (lists c.room_for.new.chronicle) (room c.room_for.new.chronicle) e.config s e.pool e.tail) (sym c.room_for.ensures.table) roomy in
     same
 
 pub returns-in-Err-clause-chronicle : goal.returns-in-Err-clause-chronicle
@@ -50,8 +53,8 @@ returns-in-Err-clause-chronicle g c =
     let past = g.D.Disk.past e.disk in
     let moment = g.D.Disk.moment e.disk in
     let table = state_of c.room_for.new.table in
-    let roomy = valid_room past moment (lists e.chronicle) (lists c.room_for.new.chronicle) (room e.chronicle) (room c.room_for.new.chronicle) e.config (state_of e.table) e.pool e.tail c.room_for.ensures.lists c.room_for.ensures.room c.self.invariant in
-    let same : IsValid past moment (lists c.room_for.new.chronicle) (room c.room_for.new.chronicle) e.config table e.pool e.tail = subst (λ (s : TxState). IsValid past moment (lists c.room_for.new.chronicle) (room c.room_for.new.chronicle) e.config s e.pool e.tail) (sym c.room_for.ensures.table) roomy in
+    let roomy = valid_room opened past moment (lists e.chronicle) (lists c.room_for.new.chronicle) (room e.chronicle) (room c.room_for.new.chronicle) e.config (state_of e.table) e.pool e.tail c.room_for.ensures.lists c.room_for.ensures.room c.self.invariant in
+    let same : IsValid opened past moment (lists c.room_for.new.chronicle) (room c.room_for.new.chronicle) e.config table e.pool e.tail = subst (λ (s : TxState). IsValid opened past moment (lists c.room_for.new.chronicle) (room c.room_for.new.chronicle) e.config s e.pool e.tail) (sym c.room_for.ensures.table) roomy in
     valid_chronicle past moment (lists c.room_for.new.chronicle) (room c.room_for.new.chronicle) e.config table e.pool e.tail same
 
 pub invariant_of-self-in-Some-refusal_of : goal.invariant_of-self-in-Some-refusal_of
@@ -62,13 +65,14 @@ invariant_of-self-in-Some-refusal_of g c =
     let past = g.D.Disk.past e.disk in
     let moment = g.D.Disk.moment e.disk in
     let table = state_of c.room_for.new.table in
-    let same = subst (λ (s : TxState). IsValid past moment (lists e.chronicle) (room e.chronicle) e.config s e.pool e.tail) (sym c.room_for.ensures.table) c.self.invariant in
+    let same = subst (λ (s : TxState). IsValid opened past moment (lists e.chronicle) (room e.chronicle) e.config s e.pool e.tail) (sym c.room_for.ensures.table) c.self.invariant in
+    let parts = same.sound.parts in
     let ends : e.tail.end + length c.bytes.result.now ≡ end_of_tail e.tail = ap (λ (l : List ℕ). e.tail.end + length l) c.bytes.ensures in
     let moves : c.passes-moves.result ≡ passes e.config.file_size (end_of_tail e.tail) (record_len c.args.command) =
     c.passes-moves.ensures ∙ ap (λ (n : ℕ). passes e.config.file_size n (option_map len_of c.in-Ok.rec)) ends ∙ ap (passes e.config.file_size (end_of_tail e.tail)) c.in-Ok.ensures.length in
     let is = ap (λ (m : Bool). refused e.config (refusal_in table c.args.command) (spent m e.pool.highest (ids_of e.pool.prepared)) c.args.command) (sym moves) ∙ sym c.in-Some-refusal_of.ensures.first in
-    valid_refused past e.config table e.pool e.tail c.args.command c.args.seat c.args.number c.requires.producer moment (lists e.chronicle) (lists c.step.new.self) (room e.chronicle) (room c.step.new.self) c.in-Some-refusal_of.refusal same
-    (refusals_are table [] same.sound.parts.steps same.sound.parts.follows c.args.command) is
+    valid_refused past e.config table e.pool e.tail c.args.command c.args.seat c.args.number opened opened moment (lists e.chronicle) (lists c.step.new.self) (room e.chronicle) (room c.step.new.self) c.in-Some-refusal_of.refusal same
+    (refusals_are table parts.base parts.steps parts.follows c.args.command) is (opens_more 1 (rolled_back parts.base) parts.steps _ c.requires.producer same.opening)
     (c.step.ensures.noted ∙ ap (option_map (with_step _)) c.room_for.ensures.lists) (omega (arith, c.room_for.ensures.room, c.step.ensures.receipts))
 
 pub returns-in-Some-refusal_of-clause-noted : goal.returns-in-Some-refusal_of-clause-noted
@@ -114,9 +118,9 @@ invariant_of-self-in-Err-ready g c =
     let past = g.D.Disk.past e.disk in
     let moment = g.D.Disk.moment e.disk in
     let table = state_of c.room_for.new.table in
-    let roomy = valid_room past moment (lists e.chronicle) (lists c.room_for.new.chronicle) (room e.chronicle) (room c.room_for.new.chronicle) e.config (state_of e.table) e.pool e.tail c.room_for.ensures.lists c.room_for.ensures.room c.self.invariant in
-    let same : IsValid past moment (lists c.room_for.new.chronicle) (room c.room_for.new.chronicle) e.config table e.pool e.tail = subst (λ (s : TxState). IsValid past moment (lists c.room_for.new.chronicle) (room c.room_for.new.chronicle) e.config s e.pool e.tail) (sym c.room_for.ensures.table) roomy in
-    c.ready.ensures.valid e.config table same
+    let roomy = valid_room opened past moment (lists e.chronicle) (lists c.room_for.new.chronicle) (room e.chronicle) (room c.room_for.new.chronicle) e.config (state_of e.table) e.pool e.tail c.room_for.ensures.lists c.room_for.ensures.room c.self.invariant in
+    let same : IsValid opened past moment (lists c.room_for.new.chronicle) (room c.room_for.new.chronicle) e.config table e.pool e.tail = subst (λ (s : TxState). IsValid opened past moment (lists c.room_for.new.chronicle) (room c.room_for.new.chronicle) e.config s e.pool e.tail) (sym c.room_for.ensures.table) roomy in
+    c.ready.ensures.valid opened e.config table same
 
 pub returns-in-Err-ready-clause-noted : goal.returns-in-Err-ready-clause-noted
 returns-in-Err-ready-clause-noted g c =
@@ -182,9 +186,9 @@ apply-given-requires-clause-count g c =
     let past = g.D.Disk.past e.disk in
     let moment = g.D.Disk.moment e.disk in
     let table = state_of c.room_for.new.table in
-    let roomy = valid_room past moment (lists e.chronicle) (lists c.room_for.new.chronicle) (room e.chronicle) (room c.room_for.new.chronicle) e.config (state_of e.table) e.pool e.tail c.room_for.ensures.lists c.room_for.ensures.room c.self.invariant in
-    let same : IsValid past moment (lists c.room_for.new.chronicle) (room c.room_for.new.chronicle) e.config table e.pool e.tail = subst (λ (s : TxState). IsValid past moment (lists c.room_for.new.chronicle) (room c.room_for.new.chronicle) e.config s e.pool e.tail) (sym c.room_for.ensures.table) roomy in
-    let valid : IsValid (g.D.Disk.past c.ready.new.disk) (g.D.Disk.moment c.ready.new.disk) (lists c.ready.new.chronicle) (room c.ready.new.chronicle) e.config table c.ready.new.pool c.ready.new.tail = c.ready.ensures.valid e.config table same in
+    let roomy = valid_room opened past moment (lists e.chronicle) (lists c.room_for.new.chronicle) (room e.chronicle) (room c.room_for.new.chronicle) e.config (state_of e.table) e.pool e.tail c.room_for.ensures.lists c.room_for.ensures.room c.self.invariant in
+    let same : IsValid opened past moment (lists c.room_for.new.chronicle) (room c.room_for.new.chronicle) e.config table e.pool e.tail = subst (λ (s : TxState). IsValid opened past moment (lists c.room_for.new.chronicle) (room c.room_for.new.chronicle) e.config s e.pool e.tail) (sym c.room_for.ensures.table) roomy in
+    let valid : IsValid opened (g.D.Disk.past c.ready.new.disk) (g.D.Disk.moment c.ready.new.disk) (lists c.ready.new.chronicle) (room c.ready.new.chronicle) e.config table c.ready.new.pool c.ready.new.tail = c.ready.ensures.valid opened e.config table same in
     count_fits e.config table c.ready.new.pool c.ready.new.tail c.args.command valid.ranges valid.sound.parts
 
 pub put_record-reply-requires-clause-fits : goal.put_record-reply-requires-clause-fits
@@ -211,9 +215,9 @@ put_record-reply-requires-clause-number g c =
     let past = g.D.Disk.past e.disk in
     let moment = g.D.Disk.moment e.disk in
     let table = state_of c.room_for.new.table in
-    let roomy = valid_room past moment (lists e.chronicle) (lists c.room_for.new.chronicle) (room e.chronicle) (room c.room_for.new.chronicle) e.config (state_of e.table) e.pool e.tail c.room_for.ensures.lists c.room_for.ensures.room c.self.invariant in
-    let same : IsValid past moment (lists c.room_for.new.chronicle) (room c.room_for.new.chronicle) e.config table e.pool e.tail = subst (λ (s : TxState). IsValid past moment (lists c.room_for.new.chronicle) (room c.room_for.new.chronicle) e.config s e.pool e.tail) (sym c.room_for.ensures.table) roomy in
-    let valid : IsValid (g.D.Disk.past c.ready.new.disk) (g.D.Disk.moment c.ready.new.disk) (lists c.ready.new.chronicle) (room c.ready.new.chronicle) e.config table c.ready.new.pool c.ready.new.tail = c.ready.ensures.valid e.config table same in
+    let roomy = valid_room opened past moment (lists e.chronicle) (lists c.room_for.new.chronicle) (room e.chronicle) (room c.room_for.new.chronicle) e.config (state_of e.table) e.pool e.tail c.room_for.ensures.lists c.room_for.ensures.room c.self.invariant in
+    let same : IsValid opened past moment (lists c.room_for.new.chronicle) (room c.room_for.new.chronicle) e.config table e.pool e.tail = subst (λ (s : TxState). IsValid opened past moment (lists c.room_for.new.chronicle) (room c.room_for.new.chronicle) e.config s e.pool e.tail) (sym c.room_for.ensures.table) roomy in
+    let valid : IsValid opened (g.D.Disk.past c.ready.new.disk) (g.D.Disk.moment c.ready.new.disk) (lists c.ready.new.chronicle) (room c.ready.new.chronicle) e.config table c.ready.new.pool c.ready.new.tail = c.ready.ensures.valid opened e.config table same in
     small_id e.config table c.ready.new.pool c.ready.new.tail valid.sound.parts
 
 pub put_record-reply-requires-clause-count : goal.put_record-reply-requires-clause-count
@@ -224,9 +228,9 @@ put_record-reply-requires-clause-count g c =
     let past = g.D.Disk.past e.disk in
     let moment = g.D.Disk.moment e.disk in
     let table = state_of c.room_for.new.table in
-    let roomy = valid_room past moment (lists e.chronicle) (lists c.room_for.new.chronicle) (room e.chronicle) (room c.room_for.new.chronicle) e.config (state_of e.table) e.pool e.tail c.room_for.ensures.lists c.room_for.ensures.room c.self.invariant in
-    let same : IsValid past moment (lists c.room_for.new.chronicle) (room c.room_for.new.chronicle) e.config table e.pool e.tail = subst (λ (s : TxState). IsValid past moment (lists c.room_for.new.chronicle) (room c.room_for.new.chronicle) e.config s e.pool e.tail) (sym c.room_for.ensures.table) roomy in
-    let valid : IsValid (g.D.Disk.past c.ready.new.disk) (g.D.Disk.moment c.ready.new.disk) (lists c.ready.new.chronicle) (room c.ready.new.chronicle) e.config table c.ready.new.pool c.ready.new.tail = c.ready.ensures.valid e.config table same in
+    let roomy = valid_room opened past moment (lists e.chronicle) (lists c.room_for.new.chronicle) (room e.chronicle) (room c.room_for.new.chronicle) e.config (state_of e.table) e.pool e.tail c.room_for.ensures.lists c.room_for.ensures.room c.self.invariant in
+    let same : IsValid opened past moment (lists c.room_for.new.chronicle) (room c.room_for.new.chronicle) e.config table e.pool e.tail = subst (λ (s : TxState). IsValid opened past moment (lists c.room_for.new.chronicle) (room c.room_for.new.chronicle) e.config s e.pool e.tail) (sym c.room_for.ensures.table) roomy in
+    let valid : IsValid opened (g.D.Disk.past c.ready.new.disk) (g.D.Disk.moment c.ready.new.disk) (lists c.ready.new.chronicle) (room c.ready.new.chronicle) e.config table c.ready.new.pool c.ready.new.tail = c.ready.ensures.valid opened e.config table same in
     few_appends e.config table c.ready.new.pool c.ready.new.tail valid.ranges valid.sound.parts
 
 pub invariant_of-self-2 : goal.invariant_of-self-2
@@ -237,9 +241,9 @@ invariant_of-self-2 g c =
     let past = g.D.Disk.past e.disk in
     let moment = g.D.Disk.moment e.disk in
     let table = state_of c.room_for.new.table in
-    let roomy = valid_room past moment (lists e.chronicle) (lists c.room_for.new.chronicle) (room e.chronicle) (room c.room_for.new.chronicle) e.config (state_of e.table) e.pool e.tail c.room_for.ensures.lists c.room_for.ensures.room c.self.invariant in
-    let same : IsValid past moment (lists c.room_for.new.chronicle) (room c.room_for.new.chronicle) e.config table e.pool e.tail = subst (λ (s : TxState). IsValid past moment (lists c.room_for.new.chronicle) (room c.room_for.new.chronicle) e.config s e.pool e.tail) (sym c.room_for.ensures.table) roomy in
-    let valid : IsValid (g.D.Disk.past c.ready.new.disk) (g.D.Disk.moment c.ready.new.disk) (lists c.ready.new.chronicle) (room c.ready.new.chronicle) e.config table c.ready.new.pool c.ready.new.tail = c.ready.ensures.valid e.config table same in
+    let roomy = valid_room opened past moment (lists e.chronicle) (lists c.room_for.new.chronicle) (room e.chronicle) (room c.room_for.new.chronicle) e.config (state_of e.table) e.pool e.tail c.room_for.ensures.lists c.room_for.ensures.room c.self.invariant in
+    let same : IsValid opened past moment (lists c.room_for.new.chronicle) (room c.room_for.new.chronicle) e.config table e.pool e.tail = subst (λ (s : TxState). IsValid opened past moment (lists c.room_for.new.chronicle) (room c.room_for.new.chronicle) e.config s e.pool e.tail) (sym c.room_for.ensures.table) roomy in
+    let valid : IsValid opened (g.D.Disk.past c.ready.new.disk) (g.D.Disk.moment c.ready.new.disk) (lists c.ready.new.chronicle) (room c.ready.new.chronicle) e.config table c.ready.new.pool c.ready.new.tail = c.ready.ensures.valid opened e.config table same in
     let ends : e.tail.end + length c.bytes.result.now ≡ end_of_tail e.tail = ap (λ (l : List ℕ). e.tail.end + length l) c.bytes.ensures in
     let moves : c.passes-moves.result ≡ passes e.config.file_size (end_of_tail e.tail) (record_len c.args.command) =
     c.passes-moves.ensures ∙ ap (λ (n : ℕ). passes e.config.file_size n (option_map len_of c.in-Ok.rec)) ends ∙ ap (passes e.config.file_size (end_of_tail e.tail)) c.in-Ok.ensures.length in
@@ -249,9 +253,11 @@ invariant_of-self-2 g c =
     let rec = c.numbered-rec.result in
     let command = c.args.command in
     let by_table = refusal_in table command in
-    let steps = valid.sound.parts.steps in
+    let parts = valid.sound.parts in
+    let base = parts.base in
+    let steps = parts.steps in
     let long : option_map len_of rec ≡ record_len command = c.numbered-rec.ensures.length ∙ c.in-Ok.ensures.length in
-    let numbered : rec ≡ record_of command (number_for (history_of steps) command t.file.id) = c.numbered-rec.ensures.record steps valid.sound.parts.follows in
+    let numbered : rec ≡ record_of command (number_for (base ++ history_of steps) command t.file.id) = c.numbered-rec.ensures.record base steps parts.follows (base_below e.config table c.ready.new.pool t parts) in
     let values : IfSome rec (λ rec. IsRecord rec) = c.numbered-rec.ensures.values (values_of e.config by_table by_numbers command c.in-Ok.rec c.self.invariant.ranges none c.in-Ok.ensures.length c.in-Ok.ensures.values) in
     let fits : IfSome rec (λ rec. end_of_tail t + len_of rec ≤ e.config.file_size) =
     subst (λ (u : Tail). IfSome rec (λ rec. end_of_tail u + len_of rec ≤ e.config.file_size)) (sym c.in_default-ready.ensures.ok) (put_fits e.config by_table by_numbers e.pool e.tail command rec c.passes-moves.result (flushes e.tail.buffer.capacity (length e.tail.buffer.bytes) command) c.self.invariant.ranges none long moves) in
@@ -262,10 +268,10 @@ invariant_of-self-2 g c =
     let noted : lists c.step-2.new.self ≡ step (reply_of t c.apply-given.result rec) (option_map (placed_behind t) rec) =
     c.step-2.ensures.noted ∙ ap (λ (r : Reply). step r c.put_record-reply.result.1) c.put_record-reply.ensures.reply ∙ ap (step (reply_of t c.apply-given.result rec)) c.put_record-reply.ensures.placed in
     let two : 2 ≤ room c.room_for.new.chronicle = c.in-Ok.ensures.receipts in
-    subst (λ (u : Tail). IsValid (g.D.Disk.past c.ready.new.disk) (g.D.Disk.moment c.ready.new.disk) (lists c.step-2.new.self) (room c.step-2.new.self) e.config (state_of c.apply-given.new.self) c.ready.new.pool u) (sym c.put_record-reply.ensures.tail)
-    (valid_accepted (g.D.Disk.past c.ready.new.disk) e.config table c.ready.new.pool t command c.args.seat c.args.number c.requires.producer (g.D.Disk.moment c.ready.new.disk) (lists c.ready.new.chronicle) (lists c.step-2.new.self) (room c.ready.new.chronicle) (room c.step-2.new.self) e.clock
-    (state_of c.apply-given.new.self) c.apply-given.result rec by_numbers valid (refusals_are table [] steps valid.sound.parts.follows command) none numbered (c.apply-given.ensures.journal [] steps valid.sound.parts.follows) values fits empty
-    (λ x accepted. c.apply-given.ensures.follows [] steps x valid.sound.parts.follows accepted) noted (omega (arith, two, c.ready.ensures.room, c.step-2.ensures.receipts)))
+    subst (λ (u : Tail). IsValid opened (g.D.Disk.past c.ready.new.disk) (g.D.Disk.moment c.ready.new.disk) (lists c.step-2.new.self) (room c.step-2.new.self) e.config (state_of c.apply-given.new.self) c.ready.new.pool u) (sym c.put_record-reply.ensures.tail)
+    (valid_accepted (g.D.Disk.past c.ready.new.disk) e.config table c.ready.new.pool t command c.args.seat c.args.number opened opened (g.D.Disk.moment c.ready.new.disk) (lists c.ready.new.chronicle) (lists c.step-2.new.self) (room c.ready.new.chronicle) (room c.step-2.new.self) e.clock
+    (state_of c.apply-given.new.self) c.apply-given.result rec by_numbers valid (refusals_are table base steps parts.follows command) none numbered (c.apply-given.ensures.journal base steps parts.follows) values fits empty
+    (λ x accepted. c.apply-given.ensures.follows base steps x parts.follows accepted) (opens_more 1 (rolled_back base) steps _ c.requires.producer valid.opening) noted (omega (arith, two, c.ready.ensures.room, c.step-2.ensures.receipts)))
 
 pub returns-clause-noted : goal.returns-clause-noted
 returns-clause-noted g c =
@@ -408,3 +414,49 @@ returns-clause-calls g c =
     ap (λ (m : Bool). m && is_nil e.pool.prepared) moves ∙ ap (λ (k : Bool). passes e.config.file_size (end_of_tail e.tail) (record_len c.args.command) && k) (sym (is_nil_ids e.pool.prepared)) ∙ ap (λ v. prepares v c.args.command) c.self.view_is in
     subst (λ (b : Bool). g.D.Disk.moment c.ready.new.disk ≤ g.D.Disk.moment c.args.self.now.disk + cond b 6 2) asks
     (subst (λ v. g.D.Disk.moment c.ready.new.disk ≤ g.D.Disk.moment v.disk + cond (c.passes-moves.result && is_nil e.pool.prepared) 6 2) c.self.view_is c.ready.ensures.calls)
+
+pub returns-in-Err-ready-clause-unasked : goal.returns-in-Err-ready-clause-unasked
+returns-in-Err-ready-clause-unasked g c =
+    let e = c.self.inside in
+    let lists = g.C.Chronicle.lists in
+    let table = state_of c.room_for.new.table in
+    let by_numbers = spent c.passes-moves.result e.pool.highest (ids_of e.pool.prepared) in
+    let none : refused e.config (refusal_in table c.args.command) by_numbers c.args.command ≡ None = sym c.in_default-refusal_of.ensures.first in
+    subst (λ v. IfSome (lists v.chronicle) (λ l. IsSome (refusal l.base l.steps v.config c.args.command) → c.ready.new.disk ≡ v.disk)) c.self.view_is
+    (nothing_refused (g.D.Disk.past e.disk) (lists e.chronicle) (g.C.Chronicle.receipt_room e.chronicle) e.config table e.pool e.tail c.args.command by_numbers e.disk c.ready.new.disk
+    (subst (λ (s : TxState). IsSound (g.D.Disk.past e.disk) (lists e.chronicle) (g.C.Chronicle.receipt_room e.chronicle) e.config s e.pool e.tail) (sym c.room_for.ensures.table) c.self.invariant.sound) none)
+
+pub returns-clause-unasked : goal.returns-clause-unasked
+returns-clause-unasked g c =
+    let e = c.self.inside in
+    let lists = g.C.Chronicle.lists in
+    let table = state_of c.room_for.new.table in
+    let by_numbers = spent c.passes-moves.result e.pool.highest (ids_of e.pool.prepared) in
+    let none : refused e.config (refusal_in table c.args.command) by_numbers c.args.command ≡ None = sym c.in_default-refusal_of.ensures.first in
+    subst (λ v. IfSome (lists v.chronicle) (λ l. IsSome (refusal l.base l.steps v.config c.args.command) → c.ready.new.disk ≡ v.disk)) c.self.view_is
+    (nothing_refused (g.D.Disk.past e.disk) (lists e.chronicle) (g.C.Chronicle.receipt_room e.chronicle) e.config table e.pool e.tail c.args.command by_numbers e.disk c.ready.new.disk
+    (subst (λ (s : TxState). IsSound (g.D.Disk.past e.disk) (lists e.chronicle) (g.C.Chronicle.receipt_room e.chronicle) e.config s e.pool e.tail) (sym c.room_for.ensures.table) c.self.invariant.sound) none)
+
+pub returns-in-Some-clause-unasked : goal.returns-in-Some-clause-unasked
+returns-in-Some-clause-unasked g c = same_disk (g.C.Chronicle.lists c.args.self.now.chronicle) c.args.self.now.config c.args.command c.args.self.now.disk c.args.self.now.disk refl
+
+pub returns-in-Err-clause-unasked : goal.returns-in-Err-clause-unasked
+returns-in-Err-clause-unasked g c = same_disk (g.C.Chronicle.lists c.args.self.now.chronicle) c.args.self.now.config c.args.command c.args.self.now.disk c.self.inside.disk (ap (λ v. v.disk) c.self.view_is)
+
+pub returns-in-Some-refusal_of-clause-unasked : goal.returns-in-Some-refusal_of-clause-unasked
+returns-in-Some-refusal_of-clause-unasked g c = same_disk (g.C.Chronicle.lists c.args.self.now.chronicle) c.args.self.now.config c.args.command c.args.self.now.disk c.self.inside.disk (ap (λ v. v.disk) c.self.view_is)
+
+pub returns-in-Some-clause-goes_on : goal.returns-in-Some-clause-goes_on
+returns-in-Some-clause-goes_on g c = goes_still (g.D.Disk.past c.args.self.now.disk)
+
+pub returns-in-Err-clause-goes_on : goal.returns-in-Err-clause-goes_on
+returns-in-Err-clause-goes_on g c = subst (λ v. GoesOn (g.D.Disk.past v.disk) (g.D.Disk.past c.self.inside.disk)) c.self.view_is (goes_still (g.D.Disk.past c.self.inside.disk))
+
+pub returns-in-Some-refusal_of-clause-goes_on : goal.returns-in-Some-refusal_of-clause-goes_on
+returns-in-Some-refusal_of-clause-goes_on g c = subst (λ v. GoesOn (g.D.Disk.past v.disk) (g.D.Disk.past c.self.inside.disk)) c.self.view_is (goes_still (g.D.Disk.past c.self.inside.disk))
+
+pub returns-in-Err-ready-clause-goes_on : goal.returns-in-Err-ready-clause-goes_on
+returns-in-Err-ready-clause-goes_on g c = subst (λ v. GoesOn (g.D.Disk.past v.disk) (g.D.Disk.past c.ready.new.disk)) c.self.view_is c.ready.ensures.goes_on
+
+pub returns-clause-goes_on : goal.returns-clause-goes_on
+returns-clause-goes_on g c = subst (λ v. GoesOn (g.D.Disk.past v.disk) (g.D.Disk.past c.ready.new.disk)) c.self.view_is c.ready.ensures.goes_on

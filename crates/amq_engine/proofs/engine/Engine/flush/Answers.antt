@@ -1,10 +1,12 @@
 use Rattle.std.proofs.Common.{ap, subst, ◌∙◌}
 use Rattle.std.specs.Prelude.{IfSome}
 use Rattle.amq_tx.specs.Tables.{state_of}
-use Rattle.amq_engine.specs.Engine.{IsChronicle}
+use Rattle.amq_engine.specs.Receipts.{GoesOn}
+use Rattle.amq_engine.specs.Engine.{opened, IsChronicle}
 use Rattle.amq_engine.proofs.Sound.{sound_there, sound_within}
 use Rattle.amq_engine.proofs.Flushing.{written_durable, seen_flushed}
 use Rattle.amq_engine.proofs.Commanding.{valid_chronicle}
+use Rattle.amq_engine.proofs.GoingOn.{goes_still}
 use Rattle.amq_engine.proofs.engine.Engine.flush.Goals as goal
 
 pub returns-in-Some-clause-chronicle : goal.returns-in-Some-clause-chronicle
@@ -26,12 +28,12 @@ write_out-requires-clause-within g c =
 pub invariant_of-self : goal.invariant_of-self
 invariant_of-self g c =
     let e = c.self.inside in
-    c.write_out.ensures.valid e.config (state_of e.table) e.pool c.self.invariant
+    c.write_out.ensures.valid opened e.config (state_of e.table) e.pool c.self.invariant
 
 pub invariant_of-self-in-Err : goal.invariant_of-self-in-Err
 invariant_of-self-in-Err g c =
     let e = c.self.inside in
-    c.write_out.ensures.valid e.config (state_of e.table) e.pool c.self.invariant
+    c.write_out.ensures.valid opened e.config (state_of e.table) e.pool c.self.invariant
 
 pub returns-in-Ok-clause-count : goal.returns-in-Ok-clause-count
 returns-in-Ok-clause-count g c =
@@ -54,3 +56,12 @@ pub returns-in-Err-clause-chronicle : goal.returns-in-Err-clause-chronicle
 returns-in-Err-clause-chronicle g c =
     let e = c.self.inside in
     valid_chronicle (g.D.Disk.past c.write_out.new.disk) (g.D.Disk.moment c.write_out.new.disk) (g.C.Chronicle.lists c.write_out.new.chronicle) (g.C.Chronicle.receipt_room c.write_out.new.chronicle) e.config (state_of e.table) e.pool c.write_out.new.tail (invariant_of-self-in-Err g c)
+
+pub returns-in-Some-clause-goes_on : goal.returns-in-Some-clause-goes_on
+returns-in-Some-clause-goes_on g c = goes_still (g.D.Disk.past c.args.self.now.disk)
+
+pub returns-in-Ok-clause-goes_on : goal.returns-in-Ok-clause-goes_on
+returns-in-Ok-clause-goes_on g c = subst (λ v. GoesOn (g.D.Disk.past v.disk) (g.D.Disk.past c.write_out.new.disk)) c.self.view_is c.write_out.ensures.goes_on
+
+pub returns-in-Err-clause-goes_on : goal.returns-in-Err-clause-goes_on
+returns-in-Err-clause-goes_on g c = subst (λ v. GoesOn (g.D.Disk.past v.disk) (g.D.Disk.past c.write_out.new.disk)) c.self.view_is c.write_out.ensures.goes_on

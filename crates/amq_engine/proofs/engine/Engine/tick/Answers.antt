@@ -2,8 +2,10 @@ use Rattle.std.proofs.Common.{◌≡◌, subst}
 use Rattle.std.specs.Prelude.{IfSome, ◌↔◌, Some, Err}
 use Rattle.amq_tx.specs.Tables.{state_of}
 use Rattle.amq_model.specs.declared.refusal.Refusal.TheVariants.{Closed}
+use Rattle.amq_engine.specs.Receipts.{GoesOn}
 use Rattle.amq_engine.specs.Engine.{IsChronicle}
 use Rattle.amq_engine.proofs.Commanding.{valid_chronicle}
+use Rattle.amq_engine.proofs.GoingOn.{goes_still}
 use Rattle.amq_engine.proofs.engine.Engine.tick.Goals as goal
 
 pub returns-in-Some-clause-chronicle : goal.returns-in-Some-clause-chronicle
@@ -19,3 +21,12 @@ pub returns-clause-chronicle : goal.returns-clause-chronicle
 returns-clause-chronicle g c =
     let e = c.self.inside in
     valid_chronicle (g.D.Disk.past e.disk) (g.D.Disk.moment e.disk) (g.C.Chronicle.lists e.chronicle) (g.C.Chronicle.receipt_room e.chronicle) e.config (state_of e.table) e.pool e.tail c.self.invariant
+
+pub returns-in-Some-clause-goes_on : goal.returns-in-Some-clause-goes_on
+returns-in-Some-clause-goes_on g c = goes_still (g.D.Disk.past c.args.self.now.disk)
+
+pub returns-then-due-clause-goes_on : goal.returns-then-due-clause-goes_on
+returns-then-due-clause-goes_on g c = subst (λ v. GoesOn (g.D.Disk.past v.disk) (g.D.Disk.past c.flush.new.self.disk)) c.self.view_is c.flush.ensures.goes_on
+
+pub returns-clause-goes_on : goal.returns-clause-goes_on
+returns-clause-goes_on g c = subst (λ v. GoesOn (g.D.Disk.past v.disk) (g.D.Disk.past c.self.inside.disk)) c.self.view_is (goes_still (g.D.Disk.past c.self.inside.disk))

@@ -1,0 +1,63 @@
+use Rattle.std.proofs.Common.{◌+◌, subst}
+use Rattle.amq_model.specs.Leaves.{Leaves}
+use Rattle.amq_pool.specs.Pools.{PoolOf, Making, Made}
+use Rattle.amq_engine.proofs.Begun.{kept_cleared, kept_making, reads_begun, told_tidy}
+use Rattle.amq_loader.specs.Bases.{Clears}
+use Rattle.amq_engine.proofs.GoingOn.{goes_by, goes_through}
+use Rattle.amq_engine.proofs.opening.renew.Goals as goal
+
+pub returns-in_err-settle_directory-clause-kept : goal.returns-in_err-settle_directory-clause-kept
+returns-in_err-settle_directory-clause-kept g c base moment b holds =
+    kept_cleared c.args.config.now c.requires.config c.args.loaded.now.highest_file c.requires.number base b.files b.records b.ascending b.named b.each
+    c.args.loaded.now.leftovers moment (g.D.Disk.past c.args.disk.now) (g.D.Disk.past c.settle_directory.new.disk) c.requires.left b.reads c.settle_directory.ensures.crash holds
+
+pub returns-in_err-file-clause-kept : goal.returns-in_err-file-clause-kept
+returns-in_err-file-clause-kept g c base moment b holds =
+    let past = g.D.Disk.past in
+    let P : PoolOf → Type 0 = λ p. Leaves (Making p.config (p.highest + 1)) (Making p.config (p.highest + 1)) (past c.settle_directory.new.disk) (past c.begin_file.new.disk) in
+    kept_making c.args.config.now c.requires.config c.args.loaded.now.highest_file c.requires.number base b.files b.records b.ascending b.named b.each
+    c.args.loaded.now.leftovers moment (past c.args.disk.now) (past c.settle_directory.new.disk) (past c.begin_file.new.disk) c.requires.left b.reads c.settle_directory.ensures.crash (subst P c.new-pool.ensures.value c.begin_file.ensures.crash) holds
+
+pub returns-clause-kept : goal.returns-clause-kept
+returns-clause-kept g c base moment b holds =
+    let past = g.D.Disk.past in
+    let P : PoolOf → Type 0 = λ p. Leaves (Making p.config (p.highest + 1)) (Making p.config (p.highest + 1)) (past c.settle_directory.new.disk) (past c.begin_file.new.disk) in
+    kept_making c.args.config.now c.requires.config c.args.loaded.now.highest_file c.requires.number base b.files b.records b.ascending b.named b.each
+    c.args.loaded.now.leftovers moment (past c.args.disk.now) (past c.settle_directory.new.disk) (past c.begin_file.new.disk) c.requires.left b.reads c.settle_directory.ensures.crash (subst P c.new-pool.ensures.value c.begin_file.ensures.crash) holds
+
+pub returns-clause-stands : goal.returns-clause-stands
+returns-clause-stands g c base b =
+    let past = g.D.Disk.past in
+    let P : PoolOf → Type 0 = λ p. Leaves (Making p.config (p.highest + 1)) (Made p.config (p.highest + 1)) (past c.settle_directory.new.disk) (past c.begin_file.new.disk) in
+    reads_begun c.args.config.now c.requires.config c.args.loaded.now.highest_file c.requires.number base b.files b.records b.ascending b.named b.each
+    c.args.loaded.now.leftovers (past c.args.disk.now) (past c.settle_directory.new.disk) (past c.begin_file.new.disk) c.requires.left b.reads c.settle_directory.ensures.crash (subst P c.new-pool.ensures.value c.in_ok-file.ensures.ok)
+
+pub returns-clause-tidy : goal.returns-clause-tidy
+returns-clause-tidy g c =
+    let past = g.D.Disk.past in
+    let P : PoolOf → Type 0 = λ p. Leaves (Making p.config (p.highest + 1)) (Made p.config (p.highest + 1)) (past c.settle_directory.new.disk) (past c.begin_file.new.disk) in
+    told_tidy c.args.config.now c.args.loaded.now.highest_file c.args.loaded.now.leftovers (past c.args.disk.now) (past c.settle_directory.new.disk) (past c.begin_file.new.disk) c.requires.number c.requires.left c.in_ok-settle_directory.ensures.ok
+    (subst P c.new-pool.ensures.value c.in_ok-file.ensures.ok)
+
+pub returns-in_err-settle_directory-clause-goes_on : goal.returns-in_err-settle_directory-clause-goes_on
+returns-in_err-settle_directory-clause-goes_on g c =
+    let P = Clears c.args.loaded.now.leftovers in
+    goes_by P P (g.D.Disk.past c.args.disk.now) (g.D.Disk.past c.settle_directory.new.disk) c.settle_directory.ensures.crash
+
+pub returns-in_err-file-clause-goes_on : goal.returns-in_err-file-clause-goes_on
+returns-in_err-file-clause-goes_on g c =
+    let past = g.D.Disk.past in
+    let C = Clears c.args.loaded.now.leftovers in
+    let M = Making c.args.config.now (c.args.loaded.now.highest_file + 1) in
+    let P : PoolOf → Type 0 = λ p. Leaves (Making p.config (p.highest + 1)) (Making p.config (p.highest + 1)) (past c.settle_directory.new.disk) (past c.begin_file.new.disk) in
+    goes_through (past c.args.disk.now) (past c.settle_directory.new.disk) (past c.begin_file.new.disk) (goes_by C C (past c.args.disk.now) (past c.settle_directory.new.disk) c.settle_directory.ensures.crash)
+    (goes_by M M (past c.settle_directory.new.disk) (past c.begin_file.new.disk) (subst P c.new-pool.ensures.value c.begin_file.ensures.crash))
+
+pub returns-clause-goes_on : goal.returns-clause-goes_on
+returns-clause-goes_on g c =
+    let past = g.D.Disk.past in
+    let C = Clears c.args.loaded.now.leftovers in
+    let M = Making c.args.config.now (c.args.loaded.now.highest_file + 1) in
+    let P : PoolOf → Type 0 = λ p. Leaves (Making p.config (p.highest + 1)) (Making p.config (p.highest + 1)) (past c.settle_directory.new.disk) (past c.begin_file.new.disk) in
+    goes_through (past c.args.disk.now) (past c.settle_directory.new.disk) (past c.begin_file.new.disk) (goes_by C C (past c.args.disk.now) (past c.settle_directory.new.disk) c.settle_directory.ensures.crash)
+    (goes_by M M (past c.settle_directory.new.disk) (past c.begin_file.new.disk) (subst P c.new-pool.ensures.value c.begin_file.ensures.crash))

@@ -1,0 +1,68 @@
+use Rattle.std.proofs.Common.{◌≡◌, ℕ, List, [], length, slice_get, refl, sym, ap, subst, ◌∙◌, arith}
+use Rattle.std.proofs.lemmas.Option.{slice_get-get_or}
+use Rattle.amq_model.specs.declared.history.Step.{Step}
+use Rattle.amq_model.specs.Answers.{history_of}
+use Rattle.amq_tx.specs.Tables.{state_of}
+use Rattle.amq_engine.specs.Engine.{rolling, IsValid, end_of_tail}
+use Rattle.amq_engine.specs.Opening.{EndsIn}
+use Rattle.amq_engine.proofs.Receipts.{if_some}
+use Rattle.amq_engine.proofs.GoingOn.{goes_still, goes_through}
+use Rattle.amq_engine.proofs.rolling.roll_back.Goals as goal
+
+pub roll_back_next-requires-clause-ended : goal.roll_back_next-requires-clause-ended
+roll_back_next-requires-clause-ended g c =
+    let first = c.args.tail.now.file.id in
+    let t = c.loop-done.tail in
+    if_some (λ l. EndsIn first (history_of l.steps) t.file.id (end_of_tail t)) (λ l. (first : ℕ) × EndsIn first (history_of l.steps) t.file.id (end_of_tail t)) (g.C.Chronicle.lists c.loop-done.chronicle) (λ l ends. (first, ends)) c.loop-done.invariant.ends
+
+pub loop-done-init : goal.loop-done-init
+loop-done-init g c =
+    let t = c.args.tail.now in
+    record {
+      valid = λ base same v. v;
+      begun = (c.requires.begun.0, c.requires.begun.1);
+      base = refl;
+      ends = if_some (λ l. l.steps ≡ []) (λ l. EndsIn t.file.id (history_of l.steps) t.file.id (end_of_tail t)) (g.C.Chronicle.lists c.args.chronicle.now) (λ l blank. subst (λ (steps : List Step). EndsIn t.file.id (history_of steps) t.file.id (end_of_tail t)) (sym blank) (refl, c.requires.begun.2)) c.requires.blank;
+      faults = (omega arith, refl);
+      later = omega arith;
+      later_file = omega arith;
+      tidy = λ tidy. tidy;
+      first = λ r starts. starts;
+      goes = goes_still (g.D.Disk.past c.args.disk.now);
+    }
+
+pub roll_back_next-requires-clause-valid : goal.roll_back_next-requires-clause-valid
+roll_back_next-requires-clause-valid g c =
+    let base = c.requires.valid.0 in (
+      base,
+      c.loop-done.invariant.valid base c.requires.valid.2 c.requires.valid.1,
+      ap (λ (txs : List ℕ). slice_get txs c.loop-done.done) (sym c.requires.valid.2) ∙ slice_get-get_or c.args.txs.now c.loop-done.done _ (grind (arith, c.loop-done-test.true)),
+    )
+
+pub returns-in_err-roll_back_next-clause-goes_on : goal.returns-in_err-roll_back_next-clause-goes_on
+returns-in_err-roll_back_next-clause-goes_on g c = goes_through (g.D.Disk.past c.args.disk.now) (g.D.Disk.past c.loop-done.disk) (g.D.Disk.past c.roll_back_next.new.disk) c.loop-done.invariant.goes c.roll_back_next.ensures.goes_on
+
+pub loop-done-preserved : goal.loop-done-preserved
+loop-done-preserved g c =
+    let u = c.roll_back_next.new.tail in
+    record {
+      valid = λ base same v. c.in_ok-roll_back_next.ensures.ok base (ap (λ (txs : List ℕ). slice_get txs c.loop-done.done) (sym same) ∙ slice_get-get_or c.args.txs.now c.loop-done.done _ (grind (arith, c.loop-done-test.true))) (c.loop-done.invariant.valid base same v);
+      begun = c.in_ok-roll_back_next.ensures.begun;
+      later_file = omega (arith, c.loop-done.invariant.later_file, c.in_ok-roll_back_next.ensures.later_file);
+      base = c.roll_back_next.ensures.base ∙ c.loop-done.invariant.base;
+      ends = if_some _ (λ l. EndsIn c.args.tail.now.file.id (history_of l.steps) u.file.id (end_of_tail u)) (g.C.Chronicle.lists c.roll_back_next.new.chronicle) (λ l ends. ends c.args.tail.now.file.id) c.in_ok-roll_back_next.ensures.ends;
+      faults = (omega (arith, c.loop-done.invariant.faults.0, c.roll_back_next.ensures.later_faults), c.in_ok-roll_back_next.ensures.faults ∙ c.loop-done.invariant.faults.1);
+      later = omega (arith, c.loop-done.invariant.later, c.roll_back_next.ensures.later);
+      tidy = λ tidy. c.in_ok-roll_back_next.ensures.tidy (c.loop-done.invariant.tidy tidy);
+      first = λ r starts. c.roll_back_next.ensures.first r (c.loop-done.invariant.first r starts);
+      goes = goes_through (g.D.Disk.past c.args.disk.now) (g.D.Disk.past c.loop-done.disk) (g.D.Disk.past c.roll_back_next.new.disk) c.loop-done.invariant.goes c.roll_back_next.ensures.goes_on;
+    }
+
+pub returns-clause-ok : goal.returns-clause-ok
+returns-clause-ok g c base same v =
+    let all : c.loop-done.done ≡ length c.args.txs.now = grind (arith, c.loop-done-test.false, c.loop-done.auto.done-end) in
+    subst (λ (n : ℕ). IsValid (rolling base n) (g.D.Disk.past c.loop-done.disk) (g.D.Disk.moment c.loop-done.disk) (g.C.Chronicle.lists c.loop-done.chronicle) (g.C.Chronicle.receipt_room c.loop-done.chronicle) c.args.config.now (state_of c.loop-done.table) c.loop-done.pool c.loop-done.tail) all
+    (c.loop-done.invariant.valid base same v)
+
+pub returns-in_err-roll_back_next-clause-first : goal.returns-in_err-roll_back_next-clause-first
+returns-in_err-roll_back_next-clause-first g c r starts = c.roll_back_next.ensures.first r (c.loop-done.invariant.first r starts)

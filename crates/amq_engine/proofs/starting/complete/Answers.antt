@@ -1,0 +1,75 @@
+use Rattle.std.proofs.Common.{◌≡◌, ℕ, ◌+◌, ◌-◌, ◌^◌, length, sym, ap, ◌∙◌}
+use Rattle.std.specs.Prelude.{min}
+use Rattle.amq_tx.specs.Tables.{state_of}
+use Rattle.amq_engine.specs.declared.tail.Tail.{Tail}
+use Rattle.amq_engine.specs.Engine.{rolling, with_files}
+use Rattle.amq_engine.proofs.Sound.{sound_there, sound_within}
+use Rattle.amq_engine.proofs.Started.{filled_by}
+use Rattle.amq_engine.proofs.GoingOn.{goes_through}
+use Rattle.amq_engine.proofs.Beginning.{starts_receipted}
+use Rattle.amq_engine.proofs.starting.complete.Goals as goal
+
+pub write_out-requires-clause-there : goal.write_out-requires-clause-there
+write_out-requires-clause-there g c =
+    let v = c.in_ok-roll_back.ensures.ok c.requires.valid.0 c.requires.valid.2 c.requires.valid.1 in
+    sound_there (g.D.Disk.past c.roll_back.new.disk) (g.C.Chronicle.lists c.roll_back.new.chronicle) (g.C.Chronicle.receipt_room c.roll_back.new.chronicle) c.args.config.now (state_of c.roll_back.new.table) c.roll_back.new.pool c.roll_back.new.tail v.sound
+
+pub write_out-requires-clause-within : goal.write_out-requires-clause-within
+write_out-requires-clause-within g c =
+    let v = c.in_ok-roll_back.ensures.ok c.requires.valid.0 c.requires.valid.2 c.requires.valid.1 in
+    sound_within (g.D.Disk.past c.roll_back.new.disk) (g.C.Chronicle.lists c.roll_back.new.chronicle) (g.C.Chronicle.receipt_room c.roll_back.new.chronicle) c.args.config.now (state_of c.roll_back.new.table) c.roll_back.new.pool c.roll_back.new.tail v.sound
+
+pub returns-in-Ok-clause-ok : goal.returns-in-Ok-clause-ok
+returns-in-Ok-clause-ok g c base same v =
+    let stage = rolling base (length c.args.txs.now) in
+    c.fill_pool.ensures.valid stage (g.C.Chronicle.lists c.write_out.new.chronicle) (g.C.Chronicle.receipt_room c.write_out.new.chronicle) c.args.config.now (state_of c.roll_back.new.table) c.write_out.new.tail
+    (c.write_out.ensures.valid stage c.args.config.now (state_of c.roll_back.new.table) c.roll_back.new.pool (c.in_ok-roll_back.ensures.ok base same v))
+
+pub returns-in-Err-fill_pool-clause-failed : goal.returns-in-Err-fill_pool-clause-failed
+returns-in-Err-fill_pool-clause-failed g c base same v =
+    let stage = rolling base (length c.args.txs.now) in (
+      length c.args.txs.now,
+      c.fill_pool.ensures.valid stage (g.C.Chronicle.lists c.write_out.new.chronicle) (g.C.Chronicle.receipt_room c.write_out.new.chronicle) c.args.config.now (state_of c.roll_back.new.table) c.write_out.new.tail
+          (c.write_out.ensures.valid stage c.args.config.now (state_of c.roll_back.new.table) c.roll_back.new.pool (c.in_ok-roll_back.ensures.ok base same v)),
+    )
+
+pub returns-in-Ok-clause-filled : goal.returns-in-Ok-clause-filled
+returns-in-Ok-clause-filled g c =
+    let file = c.write_out.new.tail.file.id in
+    let p = c.roll_back.new.pool in
+    let at : p.highest ≡ file = c.in_ok-roll_back.ensures.begun.1 ∙ sym (ap (λ (t : Tail). t.file.id) c.in_default.ensures.ok) in
+    let n : ℕ → ℕ = λ k. min (c.args.config.now.min_files - (c.args.files + (file + 1 - c.args.tail.now.file.id))) (2 ^ 31 - 1 - k) in
+    filled_by (n file) file p c.fill_pool.new.pool (c.in-Ok.ensures.filled ∙ ap (λ (k : ℕ). with_files (n k) p) at) c.in_ok-roll_back.ensures.begun.0 at
+
+pub returns-in-Err-clause-goes_on : goal.returns-in-Err-clause-goes_on
+returns-in-Err-clause-goes_on g c =
+    let past = g.D.Disk.past in
+    goes_through (past c.args.disk.now) (past c.roll_back.new.disk) (past c.write_out.new.disk) c.roll_back.ensures.goes_on c.write_out.ensures.goes_on
+
+pub returns-in-Err-clause-first : goal.returns-in-Err-clause-first
+returns-in-Err-clause-first g c r starts =
+    let lists = g.C.Chronicle.lists in
+    starts_receipted r _ c.roll_back.new.tail.appended _ (lists c.roll_back.new.chronicle) (lists c.write_out.new.chronicle) c.write_out.ensures.receipt (c.roll_back.ensures.first r starts)
+
+pub returns-in-Err-fill_pool-clause-goes_on : goal.returns-in-Err-fill_pool-clause-goes_on
+returns-in-Err-fill_pool-clause-goes_on g c =
+    let past = g.D.Disk.past in
+    goes_through (past c.args.disk.now) (past c.write_out.new.disk) (past c.fill_pool.new.disk) (goes_through (past c.args.disk.now) (past c.roll_back.new.disk) (past c.write_out.new.disk) c.roll_back.ensures.goes_on c.write_out.ensures.goes_on) c.fill_pool.ensures.goes_on
+
+pub returns-in-Err-fill_pool-clause-first : goal.returns-in-Err-fill_pool-clause-first
+returns-in-Err-fill_pool-clause-first g c r starts =
+    let lists = g.C.Chronicle.lists in
+    starts_receipted r _ c.roll_back.new.tail.appended _ (lists c.roll_back.new.chronicle) (lists c.write_out.new.chronicle) c.write_out.ensures.receipt (c.roll_back.ensures.first r starts)
+
+pub returns-in-Ok-clause-goes_on : goal.returns-in-Ok-clause-goes_on
+returns-in-Ok-clause-goes_on g c =
+    let past = g.D.Disk.past in
+    goes_through (past c.args.disk.now) (past c.write_out.new.disk) (past c.fill_pool.new.disk) (goes_through (past c.args.disk.now) (past c.roll_back.new.disk) (past c.write_out.new.disk) c.roll_back.ensures.goes_on c.write_out.ensures.goes_on) c.fill_pool.ensures.goes_on
+
+pub returns-in-Ok-clause-first : goal.returns-in-Ok-clause-first
+returns-in-Ok-clause-first g c r starts =
+    let lists = g.C.Chronicle.lists in
+    starts_receipted r _ c.roll_back.new.tail.appended _ (lists c.roll_back.new.chronicle) (lists c.write_out.new.chronicle) c.write_out.ensures.receipt (c.roll_back.ensures.first r starts)
+
+pub returns-in-Ok-clause-tidy : goal.returns-in-Ok-clause-tidy
+returns-in-Ok-clause-tidy g c tidy = c.in-Ok.ensures.tidy (c.in_default.ensures.tidy (c.in_ok-roll_back.ensures.tidy tidy))

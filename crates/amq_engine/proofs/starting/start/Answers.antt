@@ -1,0 +1,112 @@
+use Rattle.std.proofs.Common.{◌≡◌, ℕ, ◌+◌, ◌-◌, ◌^◌, List, [], length, refl, sym, ap, ◌∙◌}
+use Rattle.std.specs.Prelude.{IfSome, min}
+use Rattle.amq_model.specs.Answers.{history_of}
+use Rattle.amq_model.specs.Effect.{result_of}
+use Rattle.amq_model.specs.Legal.{rolled_back, AreLegalOfRefused}
+use Rattle.amq_tx.specs.Tables.{state_of}
+use Rattle.amq_engine.specs.Engine.{end_of_tail}
+use Rattle.amq_engine.specs.Receipts.{IsCrashSafe}
+use Rattle.amq_engine.proofs.Receipts.{if_some}
+use Rattle.amq_engine.proofs.Found.{syncs_none}
+use Rattle.amq_engine.proofs.Stages.{valid_opened}
+use Rattle.amq_engine.proofs.Beginning.{begins_blank, begins_through}
+use Rattle.amq_engine.proofs.RollingBack.{rolled_safe}
+use Rattle.amq_engine.proofs.Started.{told_filled, valid_base, valid_rolled_back, valid_appended, valid_noted, on_err}
+use Rattle.amq_engine.proofs.starting.start.Goals as goal
+
+-- nothing was asked
+pub returns-in_default-clause-begins : goal.returns-in_default-clause-begins
+returns-in_default-clause-begins g c =
+    let past = g.D.Disk.past c.args.disk.now in
+    let lists = g.C.Chronicle.lists c.args.chronicle.now in
+    begins_blank lists lists past past refl c.requires.blank (syncs_none past)
+
+pub complete-requires-clause-valid : goal.complete-requires-clause-valid
+complete-requires-clause-valid g c =
+    let begun = c.in_ok-table.ensures.valid c.in-Ok.buffer c.in-Ok.ensures in
+    (begun.0, begun.1, c.as_slice.ensures.value ∙ begun.2)
+
+pub returns-in_err-complete-clause-failed_legal : goal.returns-in_err-complete-clause-failed_legal
+returns-in_err-complete-clause-failed_legal g c =
+    let config = c.args.config.now in
+    let past = g.D.Disk.past c.complete.new.disk in
+    let moment = g.D.Disk.moment c.complete.new.disk in
+    let lists = g.C.Chronicle.lists c.complete.new.chronicle in
+    let begun = c.in_ok-table.ensures.valid c.in-Ok.buffer c.in-Ok.ensures in
+    let failed = c.in_err-complete.ensures.failed begun.0 (c.as_slice.ensures.value ∙ begun.2) begun.1 in
+    let both = rolled_safe past moment lists (g.C.Chronicle.receipt_room c.complete.new.chronicle) config (state_of c.complete.new.table) c.complete.new.pool c.complete.new.tail begun.0 failed.0 failed.1 in
+    on_err _ (IfSome lists (λ l. AreLegalOfRefused l.base l.steps config)) (if_some (λ l. IsCrashSafe past moment config.user_version l × AreLegalOfRefused l.base l.steps config) (λ l. AreLegalOfRefused l.base l.steps config) lists (λ l p. p.1) both)
+
+pub returns-in_err-complete-clause-failed_appended : goal.returns-in_err-complete-clause-failed_appended
+returns-in_err-complete-clause-failed_appended g c =
+    let lists = g.C.Chronicle.lists c.complete.new.chronicle in
+    let begun = c.in_ok-table.ensures.valid c.in-Ok.buffer c.in-Ok.ensures in
+    let failed = c.in_err-complete.ensures.failed begun.0 (c.as_slice.ensures.value ∙ begun.2) begun.1 in
+    on_err _ (IfSome lists (λ l. length (history_of l.steps) ≡ length l.steps)) (valid_appended (g.D.Disk.past c.complete.new.disk) (g.D.Disk.moment c.complete.new.disk) (g.C.Chronicle.receipt_room c.complete.new.chronicle) c.args.config.now (state_of c.complete.new.table) c.complete.new.pool c.complete.new.tail begun.0 failed.0 lists failed.1)
+
+pub returns-in_err-complete-clause-failed_safe : goal.returns-in_err-complete-clause-failed_safe
+returns-in_err-complete-clause-failed_safe g c =
+    let config = c.args.config.now in
+    let past = g.D.Disk.past c.complete.new.disk in
+    let moment = g.D.Disk.moment c.complete.new.disk in
+    let lists = g.C.Chronicle.lists c.complete.new.chronicle in
+    let begun = c.in_ok-table.ensures.valid c.in-Ok.buffer c.in-Ok.ensures in
+    let failed = c.in_err-complete.ensures.failed begun.0 (c.as_slice.ensures.value ∙ begun.2) begun.1 in
+    let both = rolled_safe past moment lists (g.C.Chronicle.receipt_room c.complete.new.chronicle) config (state_of c.complete.new.table) c.complete.new.pool c.complete.new.tail begun.0 failed.0 failed.1 in
+    on_err _ (IfSome lists (IsCrashSafe past moment config.user_version)) (if_some (λ l. IsCrashSafe past moment config.user_version l × AreLegalOfRefused l.base l.steps config) (IsCrashSafe past moment config.user_version) lists (λ l p. p.0) both)
+
+pub returns-in_err-complete-clause-begins : goal.returns-in_err-complete-clause-begins
+returns-in_err-complete-clause-begins g c =
+    let past = g.D.Disk.past in
+    let lists = g.C.Chronicle.lists in
+    let begun = c.in_ok-table.ensures.valid c.in-Ok.buffer c.in-Ok.ensures in
+    let some : IfSome (lists c.begin.new.chronicle) (λ l. l.receipts ≡ [] → ⊥) =
+    valid_noted (past c.begin.new.disk) (g.D.Disk.moment c.begin.new.disk) (g.C.Chronicle.receipt_room c.begin.new.chronicle) c.args.config.now (state_of c.in_ok-table.field-0.table) c.in_ok-table.field-0.pool _ begun.0 0 ⊥ (lists c.begin.new.chronicle) begun.1 in
+    begins_through (lists c.begin.new.chronicle) (lists c.complete.new.chronicle) (past c.args.disk.now) (past c.begin.new.disk) (past c.complete.new.disk) some c.begin.ensures.begins c.complete.ensures.base c.complete.ensures.first c.complete.ensures.goes_on
+
+pub returns-clause-begins : goal.returns-clause-begins
+returns-clause-begins g c =
+    let past = g.D.Disk.past in
+    let lists = g.C.Chronicle.lists in
+    let begun = c.in_ok-table.ensures.valid c.in-Ok.buffer c.in-Ok.ensures in
+    let some : IfSome (lists c.begin.new.chronicle) (λ l. l.receipts ≡ [] → ⊥) =
+    valid_noted (past c.begin.new.disk) (g.D.Disk.moment c.begin.new.disk) (g.C.Chronicle.receipt_room c.begin.new.chronicle) c.args.config.now (state_of c.in_ok-table.field-0.table) c.in_ok-table.field-0.pool _ begun.0 0 ⊥ (lists c.begin.new.chronicle) begun.1 in
+    begins_through (lists c.begin.new.chronicle) (lists c.complete.new.chronicle) (past c.args.disk.now) (past c.begin.new.disk) (past c.complete.new.disk) some c.begin.ensures.begins c.complete.ensures.base c.complete.ensures.first c.complete.ensures.goes_on
+
+pub returns-clause-tidy : goal.returns-clause-tidy
+returns-clause-tidy g c = c.in_ok-complete.ensures.tidy c.in_ok-table.ensures.tidy
+
+pub returns-clause-valid : goal.returns-clause-valid
+returns-clause-valid g c =
+    let begun = c.in_ok-table.ensures.valid c.in-Ok.buffer c.in-Ok.ensures in
+    let same : c.as_slice.result.now ≡ rolled_back begun.0 = c.as_slice.ensures.value ∙ begun.2 in
+    valid_opened begun.0 (length c.as_slice.result.now) (g.D.Disk.past c.complete.new.disk) (g.D.Disk.moment c.complete.new.disk) (g.C.Chronicle.lists c.complete.new.chronicle) (g.C.Chronicle.receipt_room c.complete.new.chronicle) c.args.config.now
+    (state_of c.complete.new.table) c.complete.new.pool c.complete.new.tail (ap (λ (txs : List ℕ). length txs) same) (c.in_ok-complete.ensures.ok begun.0 same begun.1)
+
+pub returns-clause-state : goal.returns-clause-state
+returns-clause-state g c =
+    let begun = c.in_ok-table.ensures.valid c.in-Ok.buffer c.in-Ok.ensures in
+    let same : c.as_slice.result.now ≡ rolled_back begun.0 = c.as_slice.ensures.value ∙ begun.2 in
+    let lists = g.C.Chronicle.lists c.complete.new.chronicle in
+    if_some (λ l. l.base ≡ begun.0) (λ l. c.in_ok-table.field-0.state ≡ result_of l.base) lists (λ l is. begun.3 ∙ ap result_of (sym is))
+    (valid_base (g.D.Disk.past c.complete.new.disk) (g.D.Disk.moment c.complete.new.disk) (g.C.Chronicle.receipt_room c.complete.new.chronicle) c.args.config.now (state_of c.complete.new.table) c.complete.new.pool c.complete.new.tail
+    begun.0 (length c.as_slice.result.now) lists (c.in_ok-complete.ensures.ok begun.0 same begun.1))
+
+pub returns-clause-rolled : goal.returns-clause-rolled
+returns-clause-rolled g c =
+    let begun = c.in_ok-table.ensures.valid c.in-Ok.buffer c.in-Ok.ensures in
+    let same : c.as_slice.result.now ≡ rolled_back begun.0 = c.as_slice.ensures.value ∙ begun.2 in
+    valid_rolled_back (g.D.Disk.past c.complete.new.disk) (g.D.Disk.moment c.complete.new.disk) (g.C.Chronicle.receipt_room c.complete.new.chronicle) c.args.config.now (state_of c.complete.new.table) c.complete.new.pool c.complete.new.tail
+    begun.0 (length c.as_slice.result.now) (g.C.Chronicle.lists c.complete.new.chronicle) (ap (λ (txs : List ℕ). length txs) same) (c.in_ok-complete.ensures.ok begun.0 same begun.1)
+
+pub returns-clause-files : goal.returns-clause-files
+returns-clause-files g c =
+    let begun = c.in_ok-table.ensures.valid c.in-Ok.buffer c.in-Ok.ensures in
+    let same : c.as_slice.result.now ≡ rolled_back begun.0 = c.as_slice.ensures.value ∙ begun.2 in
+    let valid = c.in_ok-complete.ensures.ok begun.0 same begun.1 in
+    let first = c.in_ok-table.field-0.file.id in
+    let files = c.in_ok-table.field-0.files in
+    let tail = c.complete.new.tail in
+    let pool = c.complete.new.pool in
+    told_filled c.args.config.now files first tail.file.id (end_of_tail tail) pool.highest (min (c.args.config.now.min_files - (files + (tail.file.id + 1 - first))) (2 ^ 31 - 1 - tail.file.id)) pool.prepared (g.C.Chronicle.lists c.complete.new.chronicle) (g.D.Disk.past c.args.disk.now)
+    c.in_ok-complete.ensures.later_file valid.sound.parts.numbers refl c.in_ok-complete.ensures.filled.0 c.in_ok-complete.ensures.filled.1 c.in_ok-complete.ensures.ends c.in_ok-table.ensures.numbers

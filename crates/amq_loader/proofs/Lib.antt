@@ -1,0 +1,14 @@
+pub mod Bases
+pub mod Clearing
+pub mod Syncing
+pub mod FromLoads
+mod Classes
+mod Sorting
+mod Chain
+mod Readings
+mod Found
+mod Tallies
+mod OneFile
+mod Meanings
+mod Examples
+mod BaseExamples

@@ -1,0 +1,64 @@
+use Rattle.std.proofs.Common.{◌≡◌, Vec, Global, List, Err, map, refl, sym, subst, arith, rules}
+use Rattle.amq_model.specs.Leaves.{Told, IsThere}
+use Rattle.amq_model.specs.Names.{control_name}
+use Rattle.amq_io.specs.declared.disk.FileInfo.{FileInfo}
+use Rattle.amq_io.specs.Listed.{IsListed}
+use Rattle.amq_loader.specs.declared.part.Part.{Part}
+use Rattle.amq_loader.specs.Parts.{IsFault, AreLoaded}
+use Rattle.amq_loader.proofs.Chain.{asks_on, asked_on, told_on, told_back}
+use Rattle.amq_loader.proofs.Meanings.{told_state, told_faulty, load_fault_err, loaded_back}
+use Rattle.amq_loader.proofs.loading.load_state.Goals as goal
+
+pub read_directory-requires : goal.read_directory-requires
+read_directory-requires g c =
+    let old = g.D.Disk.past c.args.disk.now in
+    record {
+      listed = told_on (IsListed c.deref.result.now) old (g.D.Disk.past c.list_files.new.disk) c.list_files.ensures.only_asks
+          (subst (λ (l : List FileInfo). Told old (IsListed l)) (sym c.deref.ensures.value) c.in_ok-infos.ensures.listed);
+    }
+
+pub returns-in_err-infos-clause-cause : goal.returns-in_err-infos-clause-cause
+returns-in_err-infos-clause-cause g c =
+    let old = g.D.Disk.past c.args.disk.now in
+    let is : c.from_residual.result ≡ Err c.in_err-infos.field-0.0 = search rules in
+    load_fault_err (Vec FileInfo Global) _ c.args.user_version (λ _. ⊥) (Told old (IsThere control_name)) c.in_err-infos.field-0.0 c.from_residual.result old
+    (g.D.Disk.faults c.args.disk.now) (g.D.Disk.faults c.args.disk.now) (g.D.Disk.faults c.list_files.new.disk)
+    (λ found h. absurd h) (λ h. h) (omega arith, refl) is c.in_err-infos.ensures.cause
+
+pub returns-in_err-parts-clause-cause : goal.returns-in_err-parts-clause-cause
+returns-in_err-parts-clause-cause g c =
+    let old = g.D.Disk.past c.args.disk.now in
+    let now = g.D.Disk.past c.list_files.new.disk in
+    let w = c.args.user_version in
+    let is : c.from_residual-in_err-parts.result ≡ Err c.in_err-parts.field-0.0 = search rules in
+    load_fault_err (Vec Part Global) _ w (λ found. Told now (IsFault w found)) ⊥ c.in_err-parts.field-0.0 c.from_residual-in_err-parts.result old
+    (g.D.Disk.faults c.args.disk.now) (g.D.Disk.faults c.list_files.new.disk) (g.D.Disk.faults c.read_directory.new.disk)
+    (λ found h. told_faulty w c.in_ok-infos.infos.items old found c.in_ok-infos.ensures.listed c.in_ok-infos.ensures.uncontrolled (told_back (IsFault w found) old now c.list_files.ensures.only_asks h))
+    (λ h. absurd h) (c.in_ok-infos.ensures.cause.0, c.in_ok-infos.ensures.cause.1) is c.in_err-parts.ensures.cause
+
+pub returns-in_err-parts-clause-asks : goal.returns-in_err-parts-clause-asks
+returns-in_err-parts-clause-asks g c = asks_on (g.D.Disk.past c.args.disk.now) (g.D.Disk.past c.list_files.new.disk) (g.D.Disk.past c.read_directory.new.disk) c.list_files.ensures.asks c.read_directory.ensures.asks
+
+pub returns-in_err-parts-clause-only_asks : goal.returns-in_err-parts-clause-only_asks
+returns-in_err-parts-clause-only_asks g c = asked_on (g.D.Disk.past c.args.disk.now) (g.D.Disk.past c.list_files.new.disk) (g.D.Disk.past c.read_directory.new.disk) c.list_files.ensures.only_asks c.read_directory.ensures.only_asks
+
+pub returns-in_err-state_of-clause-asks : goal.returns-in_err-state_of-clause-asks
+returns-in_err-state_of-clause-asks g c = asks_on (g.D.Disk.past c.args.disk.now) (g.D.Disk.past c.list_files.new.disk) (g.D.Disk.past c.read_directory.new.disk) c.list_files.ensures.asks c.read_directory.ensures.asks
+
+pub returns-in_err-state_of-clause-only_asks : goal.returns-in_err-state_of-clause-only_asks
+returns-in_err-state_of-clause-only_asks g c = asked_on (g.D.Disk.past c.args.disk.now) (g.D.Disk.past c.list_files.new.disk) (g.D.Disk.past c.read_directory.new.disk) c.list_files.ensures.only_asks c.read_directory.ensures.only_asks
+
+pub returns-clause-asks : goal.returns-clause-asks
+returns-clause-asks g c = asks_on (g.D.Disk.past c.args.disk.now) (g.D.Disk.past c.list_files.new.disk) (g.D.Disk.past c.read_directory.new.disk) c.list_files.ensures.asks c.read_directory.ensures.asks
+
+pub returns-clause-only_asks : goal.returns-clause-only_asks
+returns-clause-only_asks g c = asked_on (g.D.Disk.past c.args.disk.now) (g.D.Disk.past c.list_files.new.disk) (g.D.Disk.past c.read_directory.new.disk) c.list_files.ensures.only_asks c.read_directory.ensures.only_asks
+
+pub returns-clause-told : goal.returns-clause-told
+returns-clause-told g c =
+    let old = g.D.Disk.past c.args.disk.now in
+    let infos = c.in_ok-infos.infos.items in
+    let parts = c.in_ok-parts.parts.items in
+    let found = loaded_back c.args.user_version (map (λ (i : FileInfo). i.name) infos) old (g.D.Disk.past c.list_files.new.disk) parts c.list_files.ensures.only_asks
+    (subst (λ (l : List FileInfo). AreLoaded c.args.user_version (map (λ (i : FileInfo). i.name) l) (g.D.Disk.past c.list_files.new.disk) parts) c.deref.ensures.value c.in_ok-parts.ensures.loaded) in
+    told_state c.args.user_version infos old parts c.in_ok-state_of.field-0 c.in_ok-infos.ensures.listed c.in_ok-infos.ensures.uncontrolled found c.in_ok-state_of.ensures

@@ -1,0 +1,15 @@
+use Rattle.std.proofs.Common.{◌≡◌, ◌≤◌, take}
+use Rattle.amq_model.specs.Leaves.{Leaves, Syncs, HasSettledNames, AllAgree, IsListedSame}
+use Rattle.amq_loader.proofs.Syncing.{AllSettled}
+use Rattle.amq_loader.proofs.settling.sync_files.Given as goal
+
+-- the first ones are settled
+abbrev pub invariant-loop-file : goal.invariant-loop-file
+invariant-loop-file g l = record {
+  so_far : Leaves Syncs Syncs (g.D.Disk.past l.fn.disk) (g.D.Disk.past l.disk);
+  names : HasSettledNames (g.D.Disk.past l.disk);
+  settled : AllSettled (g.D.Disk.past l.disk) (take l.file-index l.loaded.files);
+  listed : AllAgree (g.D.Disk.past l.fn.disk) IsListedSame → AllAgree (g.D.Disk.past l.disk) IsListedSame;
+  later : g.D.Disk.moment l.fn.disk ≤ g.D.Disk.moment l.disk;
+  faults : ((g.D.Disk.faults l.fn.disk).0 ≤ (g.D.Disk.faults l.disk).0) × ((g.D.Disk.faults l.disk).1 ≡ (g.D.Disk.faults l.fn.disk).1);
+}

@@ -1,0 +1,5 @@
+pub mod Loads
+pub mod Faults
+pub mod Causes
+pub mod Parts
+pub mod Bases
