@@ -3,9 +3,11 @@ pub mod Playing
 pub mod Answering
 pub mod Ending
 pub mod Running
+pub mod Reporting
 pub mod Outputs
 pub mod Loading
 pub mod Labelling
 pub mod ReplayExamples
 pub mod Recovering
+pub mod Beginning
 pub mod Digits

@@ -1,6 +1,5 @@
 -- What the sink has taken of a run, however it ended.
-use Rattle.std.proofs.Common.{◌≡◌, ◌⊎◌, inl, inr, ℕ, true, false, List, [], ◌++◌, take, Option, None, Some, refl, sym, ap, subst, ◌∙◌, arith}
-use Rattle.std.specs.Prelude.{option_map}
+use Rattle.std.proofs.Common.{◌≡◌, ◌⊎◌, inl, inr, ℕ, true, false, List, [], ◌++◌, Option, None, Some, refl, sym, ap, subst, ◌∙◌}
 use Rattle.std.proofs.lemmas.List.{append-nil}
 use Rattle.amq_model.specs.declared.script.Line.{Line}
 use Rattle.amq_model.specs.declared.history.Step.{Step}
@@ -16,12 +15,7 @@ use Rattle.amq_cli.specs.Replay.{Answered, own}
 use Rattle.amq_cli.specs.declared.words.Task.{Task}
 use Rattle.amq_cli.specs.Offline.{HasText, IsTextOf, IsOutput, IsEnding, IsEnd, IsWritten, is_short, is_past_script}
 use Rattle.amq_cli.proofs.Running.{unopened_text}
-
-nothing_part : (text : List ℕ) (taken : Option (List ℕ)) → IsPartWritten text taken taken
-nothing_part text taken = record { count = 0; within = omega arith; is = by taken } where
-  by : (o : Option (List ℕ)) → o ≡ option_map (λ t. t ++ take 0 text) o
-  by None = refl
-  by (Some t) = ap Some (sym (append-nil t))
+use Rattle.amq_cli.proofs.Reporting.{nothing_part}
 
 nothing_written : (text : List ℕ) (taken : Option (List ℕ)) → text ≡ [] → IsWritten text taken taken
 nothing_written text None none = refl

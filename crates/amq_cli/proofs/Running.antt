@@ -262,3 +262,31 @@ begun_played timeout e base text durable since clock history rolls last empty =
       labelled = λ label. refl;
       is = empty;
     }
+
+-- a call of the disk failed in between
+pub between_cause : (status : Status) (was first now : Faults) → was.0 ≤ first.0 → HasDiskCause status first now → HasDiskCause status was now
+between_cause s.Ok was first now le cause = tt
+between_cause s.DiskFault was first now le cause = earlier_rose was.0 first.0 now.0 le cause
+between_cause s.NoMemory was first now le cause = tt
+between_cause s.SourceFault was first now le cause = absurd cause
+between_cause s.SinkFault was first now le cause = absurd cause
+between_cause (s.InputTooLong limit) was first now le cause = absurd cause
+between_cause (s.Directory fault) was first now le cause = absurd cause
+between_cause (s.FileIdsSpent highest) was first now le cause = absurd cause
+between_cause (s.NotBuilt part) was first now le cause = absurd cause
+
+pub refusal_cause : (T : Type 0) (refusal : Refusal) (was first now last : Faults) → was.0 ≤ first.0 → now.0 ≤ last.0 → HasCause {T = T} (Err refusal) first now → HasDiskCause (status_of refusal) was last
+refusal_cause T (r.Disk call) was first now last before behind cause = later (cause.0) where
+  later : Rose first.0 now.0 → Rose was.0 last.0
+  later rose = omega (arith, before, behind, rose)
+refusal_cause T (r.Closed fault) was first now last before behind cause = tt
+refusal_cause T (r.TooLarge len limit) was first now last before behind cause = tt
+refusal_cause T (r.NoTx tx) was first now last before behind cause = tt
+refusal_cause T (r.TxPrepared tx) was first now last before behind cause = tt
+refusal_cause T (r.Held id tx) was first now last before behind cause = tt
+refusal_cause T (r.AlreadyLive id) was first now last before behind cause = tt
+refusal_cause T (r.NoRecord id) was first now last before behind cause = tt
+refusal_cause T (r.TxNumbersSpent highest) was first now last before behind cause = tt
+refusal_cause T (r.Compacting phase) was first now last before behind cause = tt
+refusal_cause T (r.FileIdsSpent highest) was first now last before behind cause = tt
+refusal_cause T r.NoMemory was first now last before behind cause = tt

@@ -8,3 +8,4 @@ pub mod Labelled
 pub mod Outcomes
 pub mod Script
 pub mod Offline
+pub mod Report

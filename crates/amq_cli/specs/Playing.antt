@@ -7,6 +7,7 @@ use Rattle.amq_engine.specs.declared.chronicle.Kept.{Kept}
 use Rattle.amq_engine.specs.declared.chronicle.Receipted.{Receipted}
 use Rattle.amq_engine.specs.Lists.{Lists}
 use Rattle.amq_engine.specs.Engine.{EngineOf}
+use Rattle.amq_engine.specs.Receipts.{StartsWith}
 use Rattle.amq_cli.specs.Replay.{Answered, all_commanded, label_number, placed_at, counted, clock_of, reply_lines, AreLineAnswers, AreNumbered, IsReceipted, own, opened_in}
 
 -- the same receipts, or one more
@@ -17,6 +18,10 @@ Grows old new = (new ≡ old) ⊎ ((r : Receipted) × (new ≡ old ++ r ∷ []))
 pub record HasNoStep (old new : Lists) : Type 0 where
   pub steps : new.steps ≡ old.steps
   pub receipts : Grows old.receipts new.receipts
+
+-- the first receipt stays the first
+abbrev pub KeepsFirst : Lists → Lists → Type 0
+KeepsFirst old new = (r : Receipted) → StartsWith r old → StartsWith r new
 
 -- The numbers of the engine behind the appends of its opening and these lines: its clock, how many appends there were and how many are durable, and since when the first of the others waits.
 pub record AreNumbers (opened : ℕ) (answered : List Answered) (receipts : List Receipted) (clock appended durable : ℕ) (since : Option ℕ) : Type 0 where

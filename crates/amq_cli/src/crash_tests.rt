@@ -46,7 +46,7 @@ const SMALL: Config = Config {
 };
 
 /// A file has room for four or five short records, and two files are made at first.
-const TWO_FILES: Config = Config {
+pub const TWO_FILES: Config = Config {
     file_size: 128,
     min_files: 2,
     pool_files: None,
@@ -71,16 +71,16 @@ const FIVE_FILES: Config = Config {
 
 /// What a run left.
 #[derive(Drop)]
-struct Left {
-    status: Status,
-    disk: MemoryDisk,
-    kept: Kept,
-    text: Vec<u8>,
+pub struct Left {
+    pub status: Status,
+    pub disk: MemoryDisk,
+    pub kept: Kept,
+    pub text: Vec<u8>,
 }
 
 /// Replays the script on a disk whose call of this number fails, none for 0: the list, four calls that
 /// make a file, a write and a sync for each flush and for the closing, and the list and the reads at the end.
-fn run_with(alloc: Global, config: Config, script: &[u8], fails: u64) -> Result<Left, Fail>
+pub fn run_with(alloc: Global, config: Config, script: &[u8], fails: u64) -> Result<Left, Fail>
     requires { IsConfig config }
 {
     let disk = MemoryDisk::failing(alloc, Vec::new(alloc), vec![in alloc; fails]?)?;
@@ -88,7 +88,7 @@ fn run_with(alloc: Global, config: Config, script: &[u8], fails: u64) -> Result<
 }
 
 /// Replays the script on this disk.
-fn run_on(alloc: Global, config: Config, script: &[u8], disk: MemoryDisk) -> Result<Left, Fail>
+pub fn run_on(alloc: Global, config: Config, script: &[u8], disk: MemoryDisk) -> Result<Left, Fail>
     requires { IsConfig config }
 {
     let script = Vec::from_slice(alloc, script)?;
@@ -144,7 +144,7 @@ fn records(rt: &impl Abort, alloc: Global, mut disk: MemoryDisk) -> Result<Vec<P
 }
 
 /// The records of the history, and how many of them the last receipt counts.
-fn history(alloc: Global, kept: &Kept) -> Result<(Vec<Placed>, usize), Fail> {
+pub fn history(alloc: Global, kept: &Kept) -> Result<(Vec<Placed>, usize), Fail> {
     let mut history = Vec::new(alloc);
     for step in kept.steps.as_slice() {
         if let Some(placed) = &step.placed {
@@ -208,7 +208,7 @@ fn check_whole(rt: &impl Abort, records: &[Placed], history: &[Placed]) {
 
 /// These records are a kept part of the history: as many of the first as the last receipt counts, and
 /// then a part of the later ones, with no transaction in part.
-fn check(rt: &impl Abort, alloc: Global, records: &[Placed], kept: &Kept) -> Result<(), Fail> {
+pub fn check(rt: &impl Abort, alloc: Global, records: &[Placed], kept: &Kept) -> Result<(), Fail> {
     let (history, durable) = history(alloc, kept)?;
     let history = history.as_slice();
     let (Some(sure), Some(later)) = (history.get(..durable), history.get(durable..)) else {

@@ -4,12 +4,10 @@ ghost use Rattle.amq_model.specs.Leaves.{Leaves, OnlyAsks, Unchanged};
 ghost use Rattle.amq_cli.specs.Offline.{HasPrintCause, IsPrinted, is_unwritten};
 ghost use Rattle.amq_cli.specs.Statuses.{status_of_load};
 
-use crate::output::write;
+use crate::report::write_report;
 use crate::status::{Status, Unbuilt};
 use amq_io::{Disk, Sink};
 use amq_loader::{LoadFault, load_state};
-use amq_model::NoMemory;
-use amq_print::report;
 use std::alloc::Global;
 
 /// Loads the directory, and writes the report of it.
@@ -28,13 +26,9 @@ pub fn print<D: Disk, K: Sink>(
     ensures later { (D.faults disk.old).0 ≤ (D.faults disk.new).0 }
     ensures moment { D.moment disk.old ≤ D.moment disk.new }
 {
-    let state = match load_state(alloc, disk, user_version) {
-        Ok(state) => state,
-        Err(fault) => return status_of_load(fault),
-    };
-    match report(alloc, &state) {
-        Ok(text) => write(sink, &text, Status::Ok),
-        Err(NoMemory) => Status::NoMemory,
+    match load_state(alloc, disk, user_version) {
+        Ok(state) => write_report(alloc, &state, sink),
+        Err(fault) => status_of_load(fault),
     }
 }
 

@@ -5,7 +5,7 @@ ghost use Rattle.amq_model.specs.Configs.{IsConfig};
 ghost use Rattle.amq_model.specs.Leaves.{Told, LeavesNothingNew};
 ghost use Rattle.amq_io.specs.Cause.{Rose};
 ghost use Rattle.amq_engine.specs.Opening.{HasBase};
-ghost use Rattle.amq_engine.specs.Receipts.{IsCrashSafe, IsLastCount};
+ghost use Rattle.amq_engine.specs.Receipts.{IsCrashSafe, IsLastCount, BeginsBySyncs};
 ghost use Rattle.amq_cli.specs.Words.{asked, prints, reads_script};
 ghost use Rattle.amq_cli.specs.Offline.{lists_of, HasCause, HasLegal, HasPlayCause, IsRun, IsPlayed, IsTextOf, IsOutput, IsPrint, IsScript, IsLoadedState, is_before_opening, is_past_script, is_unwritten, defaults, IsWritten};
 ghost use Rattle.amq_cli.specs.Output.{IsPartWritten};
@@ -62,6 +62,7 @@ pub fn offline<D: Disk, S: Source, K: Sink>(
     ensures durable { prints (asked words.now) ≡ false → (result.0 ≡ Status.Ok) ⊎ (result.0 ≡ Status.SinkFault) → IsLastCount (length (history_of result.2.steps.items)) result.2.receipts.items }
     ensures opened { (result.2.receipts.items ≡ []) ⊎ Told (D.past disk) (HasBase defaults.user_version result.2.base) }
     ensures nothing_new { result.2.receipts.items ≡ [] → LeavesNothingNew (D.past disk) (D.past result.1) }
+    ensures begins { BeginsBySyncs result.2.receipts.items (D.past disk) (D.past result.1) }
 {
     offline_with(alloc, DEFAULTS, words, disk, source, sink)
 }
@@ -105,6 +106,7 @@ pub fn offline_with<D: Disk, S: Source, K: Sink>(
     ensures durable { prints (asked words.now) ≡ false → (result.0 ≡ Status.Ok) ⊎ (result.0 ≡ Status.SinkFault) → IsLastCount (length (history_of result.2.steps.items)) result.2.receipts.items }
     ensures opened { (result.2.receipts.items ≡ []) ⊎ Told (D.past disk) (HasBase config.user_version result.2.base) }
     ensures nothing_new { result.2.receipts.items ≡ [] → LeavesNothingNew (D.past disk) (D.past result.1) }
+    ensures begins { BeginsBySyncs result.2.receipts.items (D.past disk) (D.past result.1) }
 {
     let lines = match task_of(words) {
         Some(Task::Replay) => read_script(alloc, source),
@@ -157,6 +159,7 @@ fn play<D: Disk, K: Sink>(
     ensures durable { (result.0 ≡ Status.Ok) ⊎ (result.0 ≡ Status.SinkFault) → IsLastCount (length (history_of result.2.steps.items)) result.2.receipts.items }
     ensures opened { (result.2.receipts.items ≡ []) ⊎ Told (D.past disk) (HasBase config.user_version result.2.base) }
     ensures nothing_new { result.2.receipts.items ≡ [] → LeavesNothingNew (D.past disk) (D.past result.1) }
+    ensures begins { BeginsBySyncs result.2.receipts.items (D.past disk) (D.past result.1) }
 {
     let mut text = Vec::new(alloc);
     let (outcome, disk, kept) = run(alloc, config, lines, disk, &mut text);

@@ -3,11 +3,12 @@ ghost use Rattle.std.specs.Prelude.{◌≡◌, ◌+◌, ◌-◌, ◌^◌, ◌<�
 ghost use Rattle.amq_model.specs.declared.script.Line.{Line};
 ghost use Rattle.amq_model.specs.Texts.{refusal_line};
 ghost use Rattle.amq_engine.specs.Engine.{HasCause, is_noted};
+ghost use Rattle.amq_engine.specs.Receipts.{GoesOn};
 ghost use Rattle.amq_cli.specs.Offline.{lists_of};
 ghost use Rattle.amq_cli.specs.Replay.{Answered, sent, with_number, begun_number, is_begin, line_of, HasEnded, HasReplayed, IsLast, IsClosedBy, is_built, is_for_memory};
 ghost use Rattle.amq_cli.specs.Labelled.{number_in};
 ghost use Rattle.amq_cli.specs.Outcomes.{answer_in, text_in};
-ghost use Rattle.amq_cli.specs.Playing.{HasPlayed, HasNoStep, IsPlaying, AreNumbersOf};
+ghost use Rattle.amq_cli.specs.Playing.{HasPlayed, HasNoStep, KeepsFirst, IsPlaying, AreNumbersOf};
 
 use crate::labels::Labels;
 use amq_engine::{Engine, Kept};
@@ -47,6 +48,8 @@ fn give<D: Disk>(
     ensures same { (engine.new.config ≡ engine.old.config) × (engine.new.chronicle.base ≡ engine.old.chronicle.base) }
     ensures cause { HasCause result (D.faults engine.old.disk) (D.faults engine.new.disk) }
     ensures later { (D.faults engine.old.disk).0 ≤ (D.faults engine.new.disk).0 }
+    ensures goes_on { GoesOn (D.past engine.old.disk) (D.past engine.new.disk) }
+    ensures first { KeepsFirst (lists_of engine.old.chronicle) (lists_of engine.new.chronicle) }
 {
     let given = *number;
     *number += 1;
@@ -132,6 +135,8 @@ fn give_labelled<D: Disk>(
     ensures same { (engine.new.config ≡ engine.old.config) × (engine.new.chronicle.base ≡ engine.old.chronicle.base) }
     ensures cause { HasCause result (D.faults engine.old.disk) (D.faults engine.new.disk) }
     ensures later { (D.faults engine.old.disk).0 ≤ (D.faults engine.new.disk).0 }
+    ensures goes_on { GoesOn (D.past engine.old.disk) (D.past engine.new.disk) }
+    ensures first { KeepsFirst (lists_of engine.old.chronicle) (lists_of engine.new.chronicle) }
 {
     if !is_begin(&command) {
         return give(engine, number, with_number(labels.number(label), command));
@@ -171,6 +176,8 @@ fn answer_line<D: Disk>(
     ensures same { (engine.new.config ≡ engine.old.config) × (engine.new.chronicle.base ≡ engine.old.chronicle.base) }
     ensures cause { HasCause result (D.faults engine.old.disk) (D.faults engine.new.disk) }
     ensures later { (D.faults engine.old.disk).0 ≤ (D.faults engine.new.disk).0 }
+    ensures goes_on { GoesOn (D.past engine.old.disk) (D.past engine.new.disk) }
+    ensures first { KeepsFirst (lists_of engine.old.chronicle) (lists_of engine.new.chronicle) }
 {
     match line {
         Line::Plain(command) => match give(engine, number, command) {
@@ -232,6 +239,8 @@ fn play_line<D: Disk>(
     ensures same { (engine.new.config ≡ engine.old.config) × (engine.new.chronicle.base ≡ engine.old.chronicle.base) }
     ensures cause { HasCause result (D.faults engine.old.disk) (D.faults engine.new.disk) }
     ensures later { (D.faults engine.old.disk).0 ≤ (D.faults engine.new.disk).0 }
+    ensures goes_on { GoesOn (D.past engine.old.disk) (D.past engine.new.disk) }
+    ensures first { KeepsFirst (lists_of engine.old.chronicle) (lists_of engine.new.chronicle) }
 {
     match answer_line(engine, labels, number, line) {
         Ok(outcome) => match push_outcome(text, &outcome) {
@@ -263,6 +272,8 @@ pub fn replay<D: Disk>(
     ensures same { (engine.new.config ≡ engine.old.config) × (engine.new.chronicle.base ≡ engine.old.chronicle.base) }
     ensures cause { HasCause result (D.faults engine.old.disk) (D.faults engine.new.disk) }
     ensures later { (D.faults engine.old.disk).0 ≤ (D.faults engine.new.disk).0 }
+    ensures goes_on { GoesOn (D.past engine.old.disk) (D.past engine.new.disk) }
+    ensures first { KeepsFirst (lists_of engine.old.chronicle) (lists_of engine.new.chronicle) }
 {
     // The last one stands at the front, so that each is taken from the end.
     lines.reverse();

@@ -96,7 +96,11 @@ impl<R: Files<File = File> + AllocGlobal + Clone + Drop> Folder<R> {
     pub fn read(&self, name: &str) -> Result<Vec<u8>, DiskError> {
         let path = self.path_of(name)?;
         let file = File::open(&self.runtime, path.as_str()).map_err(not_read)?;
-        let mut bytes = Vec::new(self.runtime.alloc());
+        let len = file.metadata().map_err(not_read)?.len().min(READ_LIMIT);
+        // One byte more than the length, so that its end is seen without growing.
+        let mut bytes = Vec::with_capacity(self.runtime.alloc(), len as usize + 1).map_err(
+            no_memory,
+        )?;
         file.take(READ_LIMIT + 1)
             .read_to_end(&mut bytes)
             .map_err(not_read)?;

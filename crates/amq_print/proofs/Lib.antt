@@ -1,3 +1,4 @@
 pub mod Files
+pub mod HexDigits
 pub mod Joins
 pub mod Rows

@@ -11,7 +11,7 @@ mod words;
 
 pub use records::record_lines;
 pub use replies::{push_answer, push_bound};
-pub use reports::report;
+pub use reports::{push_entry, push_in_doubt, push_in_doubt_count, push_live_count, report};
 
 #[cfg(test)]
 mod tests;

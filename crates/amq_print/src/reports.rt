@@ -1,6 +1,7 @@
-ghost use Rattle.std.specs.Prelude.{◌≡◌, ◌++◌, IfOk, OnOk, codes};
+ghost use Rattle.std.specs.Prelude.{◌≡◌, ◌++◌, ◌∷◌, [], IfOk, OnOk, codes};
 ghost use Rattle.std.specs.List.{flat_map};
-ghost use Rattle.amq_model.specs.Texts.{report_of, entry_line, removal_line, in_doubt_lines, kind_name, indented};
+ghost use Rattle.std.specs.Fmt.{decimal};
+ghost use Rattle.amq_model.specs.Texts.{line, report_of, entry_line, removal_line, in_doubt_lines, kind_name, indented};
 
 use crate::words::Word::{Hex, Number, Text};
 use crate::words::push_line;
@@ -12,20 +13,29 @@ pub fn report(alloc: Global, state: &LoadState) -> Result<Vec<u8>, NoMemory>
     ensures { IfOk result (λ text. text.items ≡ report_of state.now) }
 {
     let mut out = Vec::new(alloc);
-    push_line(&mut out, &[Text("live"), Number(state.live.len() as u64)])?;
+    push_live_count(&mut out, state.live.len() as u64)?;
     push_entries(&mut out, state.live.as_slice())?;
-    push_line(
-        &mut out,
-        &[
-            Text("in"),
-            Text("doubt"),
-            Number(state.in_doubt.len() as u64),
-        ],
-    )?;
+    push_in_doubt_count(&mut out, state.in_doubt.len() as u64)?;
     for transaction in state.in_doubt.as_slice() {
         push_in_doubt(&mut out, transaction)?;
     }
     Ok(out)
+}
+
+/// Appends the first line of a report: how many records are live.
+pub fn push_live_count(out: &mut Vec<u8>, count: u64) -> Result<(), NoMemory>
+    ensures { OnOk result
+        (out.new.items ≡ out.old.items ++ line (codes "live" ∷ decimal count ∷ [])) }
+{
+    push_line(out, &[Text("live"), Number(count)])
+}
+
+/// Appends the line behind the live records: how many transactions are in doubt.
+pub fn push_in_doubt_count(out: &mut Vec<u8>, count: u64) -> Result<(), NoMemory>
+    ensures { OnOk result
+        (out.new.items ≡ out.old.items ++ line (codes "in" ∷ codes "doubt" ∷ decimal count ∷ [])) }
+{
+    push_line(out, &[Text("in"), Text("doubt"), Number(count)])
 }
 
 /// Appends the lines of live records.
@@ -39,7 +49,7 @@ fn push_entries(out: &mut Vec<u8>, entries: &[Entry]) -> Result<(), NoMemory>
 }
 
 /// Appends the line of a record.
-fn push_entry(out: &mut Vec<u8>, entry: &Entry) -> Result<(), NoMemory>
+pub fn push_entry(out: &mut Vec<u8>, entry: &Entry) -> Result<(), NoMemory>
     ensures { OnOk result (out.new.items ≡ out.old.items ++ entry_line entry.now) }
 {
     push_line(
@@ -54,7 +64,7 @@ fn push_entry(out: &mut Vec<u8>, entry: &Entry) -> Result<(), NoMemory>
 }
 
 /// Appends the lines of a transaction in doubt.
-fn push_in_doubt(out: &mut Vec<u8>, transaction: &InDoubt) -> Result<(), NoMemory>
+pub fn push_in_doubt(out: &mut Vec<u8>, transaction: &InDoubt) -> Result<(), NoMemory>
     ensures { OnOk result (out.new.items ≡ out.old.items ++ in_doubt_lines transaction.now) }
 {
     push_line(

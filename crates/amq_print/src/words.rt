@@ -1,13 +1,15 @@
 //! Lines of words.
-ghost use Rattle.std.specs.Prelude.{◌<◌, false, ◌≡◌, ◌++◌, ◌∷◌, [], OnOk, OnErr, length, take, map};
+ghost use Rattle.std.specs.Prelude.{◌≤◌, ◌≡◌, ◌++◌, ◌∷◌, [], OnOk, OnErr, length, take, map};
 ghost use Rattle.std.specs.List.{flat_map, join_with_byte};
-ghost use Rattle.std.specs.Fmt.{digit_glyph};
 ghost use Rattle.amq_model.specs.Texts.{line, hex, hex_digits};
 ghost use Rattle.amq_print.specs.Words.{word_text};
 
 use amq_model::NoMemory;
 use itoa::Buffer;
 use std::alloc::AllocError;
+
+/// How many bytes of a body are turned into digits at a time.
+const PIECE: usize = 64;
 
 /// A word of a line.
 #[derive(Clone, Copy)]
@@ -102,21 +104,20 @@ fn write_hex(out: &mut Vec<u8>, bytes: &[u8]) -> Result<(), AllocError>
         out.push(b'-')?;
         return Ok(());
     }
-    for byte in bytes {
-        out.push(hex_digit(*byte / 16))?;
-        out.push(hex_digit(*byte % 16))?;
+    for piece in bytes.chunks(PIECE) {
+        write_digits(out, piece)?;
     }
     Ok(())
 }
 
-/// The lower-case hexadecimal digit of a number below 16.
-fn hex_digit(value: u8) -> u8
-    requires { value < 16 }
-    ensures { result ≡ digit_glyph false value }
+/// Appends the bytes of one piece, at most `PIECE` of them, in hexadecimal digits.
+fn write_digits(out: &mut Vec<u8>, piece: &[u8]) -> Result<(), AllocError>
+    requires { length piece.now ≤ 64 }
+    ensures ok { OnOk result (out.new.items ≡ out.old.items ++ flat_map hex_digits piece.now) }
+    ensures err { OnErr result (out.new.items ≡ out.old.items) }
 {
-    if value < 10 {
-        b'0' + value
-    } else {
-        b'a' + (value - 10)
-    }
+    let mut digits = [0; 2 * PIECE];
+    let digits = &mut digits[..2 * piece.len()];
+    hex::encode_to_slice(piece, digits).unwrap();
+    out.extend_from_slice(digits)
 }

@@ -4,6 +4,8 @@ use Rattle.amq_model.proofs.Recovering.{nothing_new}
 use Rattle.amq_cli.specs.declared.status.Status.TheVariants.{NoMemory}
 use Rattle.amq_cli.specs.Offline.{IsLoadedState, IsEnding, is_past_script}
 use Rattle.amq_cli.specs.Script.{HasReadCause}
+use Rattle.amq_model.proofs.Settling.{unchanged_are_syncs}
+use Rattle.amq_cli.proofs.Beginning.{nothing_begins, begins_still}
 use Rattle.amq_cli.proofs.Outputs.{no_output, reading_ends, asking_ends, short_ends}
 use Rattle.amq_cli.proofs.program.offline_with.Goals as goal
 use Rattle.amq_cli.proofs.program.offline_with.Goals.{in-Some-Replay, in-Some-Settle, in-None}
@@ -24,3 +26,14 @@ returns-in-Err-clause-output g c opens =
       | in-None w ↦ asking_ends status loaded faults faults (search rules)
     ] in
     no_output _ c.args.config.buffer_timeout status loaded (left c.args.source.now) (left c.match-task_of.source) faults faults (g.K.Sink.faults c.args.sink.now) (g.K.Sink.taken c.args.sink.now) c.new-in-Err.result.steps.items c.new-in-Err.result.receipts.items (search rules) ends.0 ends.1
+
+pub returns-in-Some-Print-clause-begins : goal.returns-in-Some-Print-clause-begins
+returns-in-Some-Print-clause-begins g c =
+    let old = g.D.Disk.past c.args.disk in
+    let new = g.D.Disk.past c.print-status.new.disk in
+    nothing_begins old new c.new.result.receipts.items (search rules) (unchanged_are_syncs old new c.print-status.ensures.only_asks)
+
+pub returns-in-Err-clause-begins : goal.returns-in-Err-clause-begins
+returns-in-Err-clause-begins g c =
+    let past = g.D.Disk.past c.args.disk in
+    nothing_begins past past c.new-in-Err.result.receipts.items (search rules) (begins_still past)

@@ -6,6 +6,7 @@ use Rattle.amq_model.specs.declared.script.Line.TheVariants.{Bind, Tick}
 use Rattle.amq_model.specs.declared.history.Answer.{Answer}
 use Rattle.amq_model.specs.declared.history.Answer.TheVariants.{Done}
 use Rattle.amq_model.specs.declared.command.Reply.TheVariants.{Durable}
+use Rattle.amq_engine.proofs.GoingOn.{goes_still}
 use Rattle.amq_cli.specs.Labelled.{number_in}
 use Rattle.amq_cli.specs.Playing.{IsPlaying, AreNumbersOf}
 use Rattle.amq_cli.proofs.Playing.{labels_behind}
@@ -36,3 +37,9 @@ returns-in-Ok-tick-clause-played g c answered labelled was =
 
 pub returns-in-Tick-clause-last : goal.returns-in-Tick-clause-last
 returns-in-Tick-clause-last g c = last_of_tick c.in-Err-tick.refusal c.in-Err-tick.ensures.refusals (λ call is. still_open c.args.engine.now.closed call c.requires.open ((c.tick.ensures.closed call).0 (c.in-Err-tick.is ∙ ap Err is)))
+
+pub returns-then-is_err-clause-goes_on : goal.returns-then-is_err-clause-goes_on
+returns-then-is_err-clause-goes_on g c = goes_still (g.D.Disk.past c.args.engine.now.disk)
+
+pub returns-in-Bind-clause-goes_on : goal.returns-in-Bind-clause-goes_on
+returns-in-Bind-clause-goes_on g c = goes_still (g.D.Disk.past c.args.engine.now.disk)

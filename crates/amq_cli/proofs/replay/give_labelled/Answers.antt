@@ -5,6 +5,7 @@ use Rattle.amq_model.specs.declared.command.Command.{Command}
 use Rattle.amq_model.specs.declared.command.Command.TheVariants.{Begin}
 use Rattle.amq_model.specs.declared.history.Answer.{Answer}
 use Rattle.amq_model.specs.declared.script.Line.TheVariants.{Labelled}
+use Rattle.amq_engine.proofs.GoingOn.{goes_still}
 use Rattle.amq_cli.specs.Labelled.{number_in}
 use Rattle.amq_cli.specs.Replay.{begun_number, with_number}
 use Rattle.amq_cli.specs.Playing.{IsPlaying, AreNumbersOf}
@@ -30,3 +31,6 @@ returns-clause-played g c answered labelled was =
     let numbers = labels_behind old new answered (Labelled label Begin, Some c.in_ok-answer.answer) labelled
     (λ other. c.set.ensures other ∙ ap (λ (n : ℕ). if same label other then n else number_in c.reserve.new.self other) c.begun_number.ensures ∙ ap (λ (n : ℕ). if same label other then begun_number (Some c.in_ok-answer.answer) else n) (c.reserve.ensures.same other)) in
     subst (λ (command : Command). IsPlaying c.args.engine.now.config.buffer_timeout (answered ++ (Labelled label command, Some c.in_ok-answer.answer) ∷ []) c.give-2.new.number c.give-2.new.engine × AreNumbersOf new (answered ++ (Labelled label command, Some c.in_ok-answer.answer) ∷ [])) (sym begin) (played, numbers)
+
+pub returns-then-is_err-clause-goes_on : goal.returns-then-is_err-clause-goes_on
+returns-then-is_err-clause-goes_on g c = goes_still (g.D.Disk.past c.args.engine.now.disk)

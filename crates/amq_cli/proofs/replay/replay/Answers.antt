@@ -7,6 +7,9 @@ use Rattle.amq_cli.specs.Replay.{is_built, is_for_memory, HasEnded}
 use Rattle.amq_model.specs.Texts.{refusal_line}
 use Rattle.amq_cli.specs.Labelled.{number_in}
 use Rattle.amq_cli.specs.Playing.{HasPlayed}
+use Rattle.amq_engine.proofs.GoingOn.{goes_still, goes_through}
+use Rattle.amq_cli.specs.Offline.{lists_of}
+use Rattle.amq_cli.proofs.Beginning.{first_still, first_through}
 use Rattle.amq_cli.proofs.Ending.{one_taken, ended_more, last_of_all, same_labels}
 use Rattle.amq_cli.proofs.replay.replay.Goals as goal
 
@@ -22,6 +25,8 @@ loop-line-init g c =
       config = refl;
       base = refl;
       later = search rules;
+      goes = goes_still (g.D.Disk.past e.disk);
+      first = first_still (lists_of e.chronicle);
     }
 
 pub play_line-requires-clause-built : goal.play_line-requires-clause-built
@@ -49,6 +54,8 @@ loop-line-preserved g c =
       config = search rules;
       base = search rules;
       later = search rules;
+      goes = goes_through (g.D.Disk.past c.args.engine.now.disk) (g.D.Disk.past c.loop-line.engine.disk) (g.D.Disk.past c.play_line.new.engine.disk) was.goes c.play_line.ensures.goes_on;
+      first = first_through (lists_of c.args.engine.now.chronicle) (lists_of c.loop-line.engine.chronicle) (lists_of c.play_line.new.engine.chronicle) was.first c.play_line.ensures.first;
     }
 
 pub returns-in_err-play_line-clause-ended : goal.returns-in_err-play_line-clause-ended
@@ -67,3 +74,9 @@ returns-in_err-play_line-clause-ended g c =
     (subst (λ t. HasEnded t (played.0 ++ line ∷ []) steps receipts c.play_line.new.text.items (refusal_line c.in_err-play_line.field-0.0) (is_for_memory c.in_err-play_line.field-0.0)) timeout ended)) in
     let err : c.from_residual.result ≡ Err c.in_err-play_line.field-0.0 = search rules in
     subst (λ r. IfErr r (λ refusal. HasEnded c.args.engine.now.config.buffer_timeout c.args.lines.items steps receipts c.play_line.new.text.items (refusal_line refusal) (is_for_memory refusal))) (sym err) here
+
+pub returns-in_err-play_line-clause-goes_on : goal.returns-in_err-play_line-clause-goes_on
+returns-in_err-play_line-clause-goes_on g c = goes_through (g.D.Disk.past c.args.engine.now.disk) (g.D.Disk.past c.loop-line.engine.disk) (g.D.Disk.past c.play_line.new.engine.disk) c.loop-line.invariant.goes c.play_line.ensures.goes_on
+
+pub returns-in_err-play_line-clause-first : goal.returns-in_err-play_line-clause-first
+returns-in_err-play_line-clause-first g c = first_through (lists_of c.args.engine.now.chronicle) (lists_of c.loop-line.engine.chronicle) (lists_of c.play_line.new.engine.chronicle) c.loop-line.invariant.first c.play_line.ensures.first

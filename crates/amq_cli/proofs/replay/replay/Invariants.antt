@@ -1,9 +1,11 @@
 use Rattle.std.proofs.Common.{◌≡◌, ◌+◌, ◌≤◌, ◌++◌, List, length, None}
 use Rattle.std.specs.Prelude.{All, IsTrue, reverse}
 use Rattle.amq_model.specs.declared.script.Line.{Line}
+use Rattle.amq_engine.specs.Receipts.{GoesOn}
+use Rattle.amq_cli.specs.Offline.{lists_of}
 use Rattle.amq_cli.specs.Replay.{is_built}
 use Rattle.amq_cli.specs.Labelled.{number_in}
-use Rattle.amq_cli.specs.Playing.{HasPlayed}
+use Rattle.amq_cli.specs.Playing.{HasPlayed, KeepsFirst}
 use Rattle.amq_cli.proofs.replay.replay.Given as goal
 
 -- what was answered, and what is left
@@ -17,6 +19,8 @@ invariant-loop-line g l =
       config : l.engine.config ≡ l.fn.engine.config;
       base : l.engine.chronicle.base ≡ l.fn.engine.chronicle.base;
       later : (g.D.Disk.faults l.fn.engine.disk).0 ≤ (g.D.Disk.faults l.engine.disk).0;
+      goes : GoesOn (g.D.Disk.past l.fn.engine.disk) (g.D.Disk.past l.engine.disk);
+      first : KeepsFirst (lists_of l.fn.engine.chronicle) (lists_of l.engine.chronicle);
     }
 
 abbrev pub decreases-loop-line : goal.decreases-loop-line

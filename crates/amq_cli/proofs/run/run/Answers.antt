@@ -2,6 +2,7 @@ use Rattle.std.proofs.Common.{[], sym, subst, rules, inl, inr, ⊎_elim}
 use Rattle.amq_model.specs.declared.config.Config.{Config}
 use Rattle.amq_cli.specs.Offline.{lists_of, HasRunOn, HasText, IsLoadedState, IsEnding, HasRunCause}
 use Rattle.amq_cli.specs.declared.status.Status.{Status}
+use Rattle.amq_cli.proofs.Beginning.{begins_run}
 use Rattle.amq_cli.proofs.Recovering.{synced_nothing_new, begins_bare}
 use Rattle.amq_cli.proofs.Running.{begun_played, earlier_text, unopened_text, opening_ends, opening_cause, opens_partly}
 use Rattle.amq_model.specs.Legal.{rolled_back}
@@ -53,3 +54,11 @@ returns-in-Err-clause-nothing_new g c none = synced_nothing_new (g.D.Disk.past c
 
 pub returns-in-Err-clause-opened : goal.returns-in-Err-clause-opened
 returns-in-Err-clause-opened g c = ⊎_elim (λ blank. inl blank.2) (λ based. inr based) c.in-Err.ensures.failed_base
+
+pub returns-in-Ok-clause-begins : goal.returns-in-Ok-clause-begins
+returns-in-Ok-clause-begins g c =
+    let e = c.in-Ok.engine in
+    begins_run e.durable (lists_of e.chronicle) (lists_of c.run_on.result.2) (g.D.Disk.past c.args.disk) (g.D.Disk.past e.disk) (g.D.Disk.past c.run_on.result.1) c.in-Ok.ensures.chronicle.last c.in-Ok.ensures.begins c.run_on.ensures.base c.run_on.ensures.first c.run_on.ensures.goes_on
+
+pub returns-in-Err-clause-begins : goal.returns-in-Err-clause-begins
+returns-in-Err-clause-begins g c = c.in-Err.ensures.failed_begins

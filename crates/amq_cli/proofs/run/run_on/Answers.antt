@@ -1,15 +1,21 @@
-use Rattle.std.proofs.Common.{◌≡◌, ◌⊎◌, inr, ℕ, sym, ap, subst, ◌∙◌}
-use Rattle.std.specs.Prelude.{IsSome}
+use Rattle.std.proofs.Common.{◌≡◌, ◌⊎◌, inr, ℕ, ◌≤◌, length, sym, ap, subst, ◌∙◌, arith}
+use Rattle.std.specs.Prelude.{IsSome, IfOk}
 use Rattle.amq_model.specs.declared.config.Config.{Config}
 use Rattle.amq_model.specs.Answers.{history_of}
 use Rattle.amq_model.specs.Leaves.{Told}
 use Rattle.amq_engine.specs.Directory.{IsJournal}
 use Rattle.amq_engine.specs.Receipts.{IsCrashSafe}
+use Rattle.amq_engine.specs.Engine.{HasCause}
+use Rattle.amq_cli.specs.Statuses.{status_of}
 use Rattle.amq_cli.specs.Offline.{IsReported, HasRunOn, HasText, HasDiskCause, IsLoadedState, lists_of}
 use Rattle.amq_cli.specs.declared.status.Status.TheVariants.{Ok}
-use Rattle.amq_cli.proofs.Recovering.{safe_still}
+use Rattle.amq_model.specs.Leaves.{Unchanged}
+use Rattle.amq_engine.specs.Receipts.{GoesOn}
+use Rattle.amq_engine.proofs.GoingOn.{goes_by, goes_through}
+use Rattle.amq_cli.proofs.Beginning.{first_through, first_receipted}
+use Rattle.amq_cli.proofs.Recovering.{safe_still, last_of_all}
 use Rattle.amq_cli.proofs.Loading.{has_run_on, never_done, closed_so}
-use Rattle.amq_cli.proofs.Running.{replayed_closed, ended_closed, reported_text, unreported_text, refused_text, refusal_status, named_refusal}
+use Rattle.amq_cli.proofs.Running.{replayed_closed, ended_closed, reported_text, unreported_text, refused_text, refusal_status, named_refusal, between_cause, refusal_cause}
 use Rattle.amq_cli.proofs.run.run_on.Goals as goal
 use Rattle.amq_cli.proofs.run.run_on.Goals.{in-Ok+in-Ok-closed, in-Ok+in-Err-closed, in-Err}
 
@@ -73,4 +79,50 @@ returns-clause-crash_safe g c =
           (safe_still (g.D.Disk.past c.close-disk.result.0) (g.D.Disk.past w.add_report.new.disk) (g.D.Disk.moment c.close-disk.result.0) (g.D.Disk.moment w.add_report.new.disk) wanted kept w.add_report.ensures.only_asks w.add_report.ensures.moment closed)
       | in-Ok+in-Err-closed w ↦ subst (λ d. IsCrashSafe (g.D.Disk.past d) (g.D.Disk.moment d) wanted kept) (sym w.disk-is) closed
       | in-Err w ↦ subst (λ d. IsCrashSafe (g.D.Disk.past d) (g.D.Disk.moment d) wanted kept) (sym w.disk-is) closed
+    ]
+
+pub returns-clause-goes_on : goal.returns-clause-goes_on
+returns-clause-goes_on g c =
+    let past = g.D.Disk.past in
+    let start = past c.args.engine.disk in
+    let closed = past c.close-disk.result.0 in
+    let goes : GoesOn start closed = goes_through start (past c.replay-played.new.engine.disk) closed c.replay-played.ensures.goes_on c.close-disk.ensures.goes_on in
+    elim c.match-played.branch [
+      | in-Ok+in-Ok-closed w ↦ subst (λ d. GoesOn start (past d)) (sym w.disk-is) (goes_through start closed (past w.add_report.new.disk) goes (goes_by Unchanged Unchanged closed (past w.add_report.new.disk) w.add_report.ensures.only_asks))
+      | in-Ok+in-Err-closed w ↦ subst (λ d. GoesOn start (past d)) (sym w.disk-is) goes
+      | in-Err w ↦ subst (λ d. GoesOn start (past d)) (sym w.disk-is) goes
+    ]
+
+pub returns-clause-first : goal.returns-clause-first
+returns-clause-first g c =
+    let played = lists_of c.replay-played.new.engine.chronicle in
+    let kept = lists_of c.close-disk.result.1 in
+    first_through (lists_of c.args.engine.chronicle) played kept c.replay-played.ensures.first (first_receipted _ _ _ played kept c.close-disk.ensures.receipt)
+
+pub returns-clause-durable : goal.returns-clause-durable
+returns-clause-durable g c =
+    let played = c.replay-played.new.engine in
+    let kept = c.close-disk.result.1 in
+    let chronicle = c.close-disk.ensures.chronicle in
+    elim c.match-played.branch [
+      | in-Ok+in-Ok-closed w ↦ (λ done. last_of_all c.close-disk.result.2 w.in-Ok-closed.field-0 played.appended played.durable (length (history_of kept.steps.items)) kept.receipts.items w.in-Ok-closed.is
+          (subst (λ r. IfOk r (λ count. count ≡ played.appended)) w.in-Ok-closed.is c.close-disk.ensures.count) chronicle.history chronicle.last)
+      | in-Ok+in-Err-closed w ↦ (λ done. absurd (never_done _ (sym w.status_of_refusal.ensures ∙ sym w.status-is ∙ done)))
+      | in-Err w ↦ (λ done. absurd (never_done _ (sym w.status_of_refusal-status.ensures ∙ sym w.status-is ∙ done)))
+    ]
+
+pub returns-clause-cause : goal.returns-clause-cause
+returns-clause-cause g c =
+    let faults = g.D.Disk.faults in
+    let was = faults c.args.engine.disk in
+    let played = faults c.replay-played.new.engine.disk in
+    let closed = faults c.close-disk.result.0 in
+    let now = faults c.match-played.disk in
+    let on : was.0 ≤ closed.0 = omega (arith, c.replay-played.ensures.later, c.close-disk.ensures.later) in
+    elim c.match-played.branch [
+      | in-Ok+in-Ok-closed w ↦ subst (λ s. HasDiskCause s was now) (sym w.status-is) (subst (λ d. HasDiskCause w.add_report.result was (faults d)) (sym w.disk-is) (between_cause w.add_report.result was closed (faults w.add_report.new.disk) on w.add_report.ensures.cause))
+      | in-Ok+in-Err-closed w ↦ subst (λ s. HasDiskCause s was now) (sym (w.status-is ∙ w.status_of_refusal.ensures)) (subst (λ d. HasDiskCause (status_of w.in-Err-closed.refusal) was (faults d)) (sym w.disk-is)
+          (refusal_cause ℕ w.in-Err-closed.refusal was played closed closed c.replay-played.ensures.later (omega arith) (subst (λ r. HasCause r played closed) w.in-Err-closed.is c.close-disk.ensures.cause)))
+      | in-Err w ↦ subst (λ s. HasDiskCause s was now) (sym (w.status-is ∙ w.status_of_refusal-status.ensures)) (subst (λ d. HasDiskCause (status_of w.in-Err.refusal) was (faults d)) (sym w.disk-is)
+          (refusal_cause (Unit {0}) w.in-Err.refusal was was played closed (omega arith) c.close-disk.ensures.later w.in-Err.ensures.cause))
     ]

@@ -1,7 +1,13 @@
-use Rattle.std.proofs.Common.{◌≡◌, ◌++◌, take}
+use Rattle.std.proofs.Common.{◌≡◌, ◌++◌, ℕ, List}
 use Rattle.std.specs.List.{flat_map}
+use Rattle.std.specs.Slice.Iter.{chunks_rest, chunks_size}
 use Rattle.amq_model.specs.Texts.{hex_digits}
 use Rattle.amq_print.proofs.words.write_hex.Given as goal
 
-abbrev pub invariant-loop-byte : goal.invariant-loop-byte
-invariant-loop-byte l = l.out.items ≡ l.fn.out.items ++ flat_map hex_digits (take l.byte-index l.bytes)
+abbrev pub invariant-loop-piece : goal.invariant-loop-piece
+invariant-loop-piece l =
+    goal.iterator-loop-piece.can_next l.piece-iterator
+    × goal.iterator-loop-piece.is_finite l.piece-iterator
+    × (chunks_size l.piece-iterator ≡ 64)
+    × (done : List ℕ) × (l.out.items ≡ l.fn.out.items ++ done)
+    × (done ++ flat_map hex_digits (chunks_rest l.piece-iterator) ≡ flat_map hex_digits l.bytes)

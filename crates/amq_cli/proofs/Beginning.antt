@@ -1,0 +1,40 @@
+-- The first receipt of a run stays, and up to it the disk was only asked and synced.
+use Rattle.std.proofs.Common.{◌≡◌, ℕ, Bool, List, [], Option, Some, sym, ap, subst}
+use Rattle.amq_model.specs.Calls.{Past}
+use Rattle.amq_model.specs.Leaves.{Leaves, Syncs}
+use Rattle.amq_model.proofs.Moments.{still}
+use Rattle.amq_model.proofs.Settling.{syncs_itself}
+use Rattle.amq_engine.specs.declared.chronicle.Receipted.{Receipted}
+use Rattle.amq_engine.specs.Lists.{Lists}
+use Rattle.amq_engine.specs.Receipts.{GoesOn, BeginsBySyncs, IsLastCount}
+use Rattle.amq_engine.specs.Engine.{receipted}
+use Rattle.amq_engine.proofs.Beginning.{starts_receipted, begins_through}
+use Rattle.amq_cli.specs.Playing.{KeepsFirst}
+use Rattle.amq_cli.proofs.Recovering.{last_some}
+
+-- ---- the first receipt
+
+-- nothing was noted
+pub first_still : (l : Lists) → KeepsFirst l l
+first_still l r starts = starts
+
+pub first_through : (a b c : Lists) → KeepsFirst a b → KeepsFirst b c → KeepsFirst a c
+first_through a b c one two r starts = two r (one r starts)
+
+-- a further receipt, or none
+pub first_receipted : (b : Bool) (count moment : ℕ) (old new : Lists) → Some new ≡ receipted b count moment (Some old) → KeepsFirst old new
+first_receipted b count moment old new is r starts = starts_receipted r b count moment (Some old) (Some new) is starts
+
+-- ---- the calls up to it
+
+-- no call was made, and nothing noted
+pub begins_still : (past : Option Past) → BeginsBySyncs [] past past
+begins_still past = still Syncs Syncs past syncs_itself
+
+-- there is no receipt, and only syncs were made
+pub nothing_begins : (a b : Option Past) (rs : List Receipted) → rs ≡ [] → Leaves Syncs Syncs a b → BeginsBySyncs rs a b
+nothing_begins a b rs none syncs = subst (λ (rs : List Receipted). BeginsBySyncs rs a b) (sym none) syncs
+
+-- behind an opening that answered Ok
+pub begins_run : (count : ℕ) (old new : Lists) (a b d : Option Past) → IsLastCount count old.receipts → BeginsBySyncs old.receipts a b → new.base ≡ old.base → KeepsFirst old new → GoesOn b d → BeginsBySyncs new.receipts a d
+begins_run count old new a b d last begins same first goes = begins_through (Some old) (Some new) a b d (last_some count old.receipts last) begins (ap Some same) first goes
