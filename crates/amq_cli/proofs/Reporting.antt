@@ -22,17 +22,6 @@ written_behind a b old mid new first second = second ∙ ap (λ (o : Option (Lis
   by None = refl
   by (Some t) = ap Some (append_assoc t a b)
 
--- all of it waits
-pub nothing_sent : (waiting : List ℕ) (taken : Option (List ℕ)) → IsSent waiting waiting taken taken
-nothing_sent waiting taken = record { sent = []; is = refl; taken = by taken } where
-  by : (o : Option (List ℕ)) → o ≡ option_map (λ t. t ++ []) o
-  by None = refl
-  by (Some t) = ap Some (sym (append-nil t))
-
--- nothing waits
-pub all_sent : (text : List ℕ) (old new : Option (List ℕ)) → IsWritten text old new → IsSent text [] old new
-all_sent text old new written = record { sent = text; is = sym (append-nil text); taken = written }
-
 -- more of the text
 pub sent_behind : (text more waiting waiting' : List ℕ) (old mid new : Option (List ℕ)) → IsSent text waiting old mid → IsSent (waiting ++ more) waiting' mid new → IsSent (text ++ more) waiting' old new
 sent_behind text more waiting waiting' old mid new first second = record {
@@ -95,11 +84,6 @@ lines_part {X = X} f xs front i x waiting old mid new within at first part =
 pub part_rest : (text waiting : List ℕ) (old mid new : Option (List ℕ)) → IsSent text waiting old mid → IsPartWritten waiting mid new → IsPartWritten text old new
 part_rest text waiting old mid new first part =
     subst (λ (t : List ℕ). IsPartWritten t old new) (append-nil text) (part_behind text [] waiting old mid new first (subst (λ (t : List ℕ). IsPartWritten t mid new) (sym (append-nil waiting)) part))
-
--- a fact that holds holds of an error, and of an answer
-pub on_err : {T E : Type 0} (r : Result T E) {P : Type 0} → P → OnErr r P
-on_err (Ok x) p = tt
-on_err (Err e) p = p
 
 -- what holds of an answer holds where there is one
 pub with_ok : {T E : Type 0} (r : Result T E) {P : Type 0} → true ≡ is_ok r → OnOk r P → P

@@ -22,29 +22,24 @@ pub fn write_report<K: Sink>(alloc: Global, state: &LoadState, sink: &mut K) -> 
     ensures part { IsPartWritten (report_of state.now) (K.taken sink.old) (K.taken sink.new) }
     ensures ok { result ≡ Status.Ok → IsWritten (report_of state.now) (K.taken sink.old) (K.taken sink.new) }
 {
-    let mut waiting = Vec::new(alloc);
-    match write_lines(&mut waiting, state, sink) {
+    match write_lines(alloc, state, sink) {
         Ok(()) => Status::Ok,
         Err(SinkError::NoMemory) => Status::NoMemory,
         Err(SinkError::Failed) => Status::SinkFault,
     }
 }
 
-/// Writes the lines of the report; `waiting` holds those that the sink hasn't taken yet.
-fn write_lines<K: Sink>(
-    waiting: &mut Vec<u8>,
-    state: &LoadState,
-    sink: &mut K,
-) -> Result<(), SinkError>
-    requires { waiting.now.items ≡ [] }
+/// Writes the lines of the report. Those that the sink hasn't taken yet wait.
+fn write_lines<K: Sink>(alloc: Global, state: &LoadState, sink: &mut K) -> Result<(), SinkError>
     ensures ok { OnOk result (IsWritten (report_of state.now) (K.taken sink.old) (K.taken sink.new)) }
     ensures part { OnErr result (IsPartWritten (report_of state.now) (K.taken sink.old) (K.taken sink.new)) }
     ensures cause { IfErr result (λ error. HasOutputCause error (K.faults sink.old) (K.faults sink.new)) }
 {
-    grown(push_live_count(waiting, state.live.len() as u64))?;
-    write_entries(waiting, state.live.as_slice(), sink)?;
-    grown(push_in_doubt_count(waiting, state.in_doubt.len() as u64))?;
-    write_in_doubts(waiting, state.in_doubt.as_slice(), sink)?;
+    let mut waiting = Vec::new(alloc);
+    grown(push_live_count(&mut waiting, state.live.len() as u64))?;
+    write_entries(&mut waiting, state.live.as_slice(), sink)?;
+    grown(push_in_doubt_count(&mut waiting, state.in_doubt.len() as u64))?;
+    write_in_doubts(&mut waiting, state.in_doubt.as_slice(), sink)?;
     write_whole(sink, waiting.as_slice())
 }
 

@@ -1,6 +1,7 @@
 use Rattle.std.proofs.Common.{arith}
 use Rattle.amq_model.specs.Texts.{entry_line}
-use Rattle.amq_cli.proofs.Reporting.{lines_part, lines_sent, on_err}
+use Rattle.amq_print.proofs.Joins.{on_err}
+use Rattle.amq_cli.proofs.Reporting.{lines_part, lines_sent}
 use Rattle.amq_cli.proofs.report.write_entries.Goals as goal
 
 pub returns-in_err-write_entry-clause-part : goal.returns-in_err-write_entry-clause-part
