@@ -8,6 +8,3 @@
 mod timed;
 
 pub use timed::TimedBuffer;
-
-#[cfg(test)]
-mod tests;

@@ -19,12 +19,3 @@ mod words;
 
 pub use program::{offline, offline_with};
 pub use status::{Status, Unbuilt};
-
-#[cfg(test)]
-mod crash_tests;
-#[cfg(test)]
-mod directory_tests;
-#[cfg(test)]
-mod opening_tests;
-#[cfg(test)]
-mod tests;

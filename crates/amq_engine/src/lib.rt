@@ -22,6 +22,3 @@ mod tail;
 pub use chronicle::{Chronicle, Kept, Receipted, Unkept};
 pub use engine::{Engine, OpenFailed};
 pub use log::Log;
-
-#[cfg(test)]
-mod tests;

@@ -17,6 +17,3 @@ pub use law::{
     made_names_have_their_class, temporary_names,
 };
 pub use names::{compacted_name, data_name, temporary_name};
-
-#[cfg(test)]
-mod tests;

@@ -28,6 +28,3 @@ pub use memory_source::MemorySource;
 pub use pick::Pick;
 pub use sink::{Sink, SinkError};
 pub use source::{Failed, Source};
-
-#[cfg(test)]
-mod tests;

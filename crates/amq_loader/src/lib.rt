@@ -19,8 +19,3 @@ pub use faults::LoadFault;
 pub use loaded::Loaded;
 pub use loading::{load, load_state};
 pub use settling::{settle_directory, sync_files};
-
-#[cfg(test)]
-mod settling_tests;
-#[cfg(test)]
-mod tests;

@@ -17,6 +17,3 @@ pub use law::{
     a_prepared_file_has_its_header, a_prepared_file_has_no_record, a_prepared_file_is_durable,
 };
 pub use pool::{Pool, PoolFile};
-
-#[cfg(test)]
-mod tests;

@@ -17,6 +17,3 @@ pub use law::{no_spelling_begins_another, one_record_at_a_place, spelling_is_rea
 pub use reading::record_at;
 pub use spot::{RecordRef, Spot};
 pub use writing::{encode_into, encoded_len};
-
-#[cfg(test)]
-mod tests;

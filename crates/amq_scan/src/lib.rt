@@ -13,6 +13,3 @@ pub use law::{
     one_scan, torn_behind, written_are_found,
 };
 pub use scanning::scan;
-
-#[cfg(test)]
-mod tests;

@@ -1,14 +1,148 @@
 use crate::{Mode, Script, ScriptCause, ScriptFault, parse};
 use amq_model::{Bytes, Command, Items, Line, Name};
 use std::alloc::{AllocError, Global};
+use std::process::Abort;
 use std::test::Fail;
 
-/// Whether the script is refused at this line for this cause.
-fn is_refused(alloc: Global, text: &str, mode: Mode, line: u64, cause: ScriptCause) -> bool {
-    match parse(alloc, text.as_bytes(), mode) {
-        Ok(_) => false,
-        Err(fault) => fault == ScriptFault::At { line, cause },
+/// How many lines each producer has, or the first wrong line and what is wrong with it.
+type Told = Result<&'static [usize], (u64, ScriptCause)>;
+
+/// Texts, each so many times one behind the other, and what they are in this mode.
+const ROWS: &[(&str, usize, Mode, Told)] = &[
+    ("", 1, Mode::Run, Ok(&[])),
+    (
+        "# two\nproducer\nflush\nbegin a\ncommit a\nproducer\nbind a 9\n",
+        1,
+        Mode::Run,
+        Ok(&[3, 1]),
+    ),
+    (
+        "producer\nflush\nbegin a\nproducer\n\nproducer\nupdatetx",
+        1,
+        Mode::Replay,
+        Err((1, ScriptCause::UnknownWord)),
+    ),
+    ("producer\n", 64, Mode::Run, Ok(&[0; 64])),
+    ("producer\n", 65, Mode::Run, Err((65, ScriptCause::Section))),
+    (
+        "flush\nflush\n\n# x\nfrob 1\nfrob 2",
+        1,
+        Mode::Replay,
+        Err((5, ScriptCause::UnknownWord)),
+    ),
+    (
+        "producer",
+        1,
+        Mode::Replay,
+        Err((1, ScriptCause::UnknownWord)),
+    ),
+    ("tick 1", 1, Mode::Run, Err((1, ScriptCause::UnknownWord))),
+    (" # x", 1, Mode::Replay, Err((1, ScriptCause::UnknownWord))),
+    (
+        "flush\r",
+        1,
+        Mode::Replay,
+        Err((1, ScriptCause::UnknownWord)),
+    ),
+    (
+        "add\t1 7 -",
+        1,
+        Mode::Replay,
+        Err((1, ScriptCause::UnknownWord)),
+    ),
+    ("\nadd 1 7 -", 1, Mode::Run, Err((2, ScriptCause::Section))),
+    ("add 1 7", 1, Mode::Replay, Err((1, ScriptCause::Arguments))),
+    ("flush 1", 1, Mode::Replay, Err((1, ScriptCause::Arguments))),
+    ("begin A", 1, Mode::Replay, Err((1, ScriptCause::Label))),
+    (
+        "begin abcdefghijklmnopq",
+        1,
+        Mode::Replay,
+        Err((1, ScriptCause::Label)),
+    ),
+    ("commit a", 1, Mode::Replay, Err((1, ScriptCause::Unbegun))),
+    (
+        "addtx a x y z",
+        1,
+        Mode::Replay,
+        Err((1, ScriptCause::Unbegun)),
+    ),
+    (
+        "producer\nbegin a\nproducer\ncommit a",
+        1,
+        Mode::Run,
+        Err((4, ScriptCause::Unbegun)),
+    ),
+    (
+        "add 1 256 -",
+        1,
+        Mode::Replay,
+        Err((1, ScriptCause::Number)),
+    ),
+    (
+        "add 9223372036854775808 7 -",
+        1,
+        Mode::Replay,
+        Err((1, ScriptCause::Number)),
+    ),
+    (
+        "add 00000000000000000001 7 -",
+        1,
+        Mode::Replay,
+        Err((1, ScriptCause::Number)),
+    ),
+    (
+        "add 1 0007 z",
+        1,
+        Mode::Replay,
+        Err((1, ScriptCause::Number)),
+    ),
+    ("step 0", 1, Mode::Replay, Err((1, ScriptCause::Number))),
+    (
+        "step 1000001",
+        1,
+        Mode::Replay,
+        Err((1, ScriptCause::Number)),
+    ),
+    ("add 1 7 6", 1, Mode::Replay, Err((1, ScriptCause::Hex))),
+    (
+        "add 9223372036854775807 007 6g",
+        1,
+        Mode::Replay,
+        Err((1, ScriptCause::Hex)),
+    ),
+];
+
+/// How many lines each producer has.
+fn counts(alloc: Global, script: &Script) -> Result<Vec<usize>, AllocError> {
+    let mut counts = Vec::new(alloc);
+    for lines in script.producers.as_slice() {
+        counts.push(lines.len())?;
     }
+    Ok(counts)
+}
+
+/// The text is this.
+fn check(
+    rt: &impl Abort,
+    alloc: Global,
+    text: &str,
+    mode: Mode,
+    told: Told,
+) -> Result<(), AllocError> {
+    match parse(alloc, text.as_bytes(), mode) {
+        Ok(script) => {
+            let counts = counts(alloc, &script)?;
+            assert_eq!(rt; Ok(counts.as_slice()), told, "{text}");
+        }
+        Err(fault) => {
+            let wanted = told
+                .err()
+                .map(|(line, cause)| ScriptFault::At { line, cause });
+            assert_eq!(rt; Some(fault), wanted, "{text}");
+        }
+    }
+    Ok(())
 }
 
 fn label(alloc: Global, text: &str) -> Result<Name, Fail> {
@@ -95,110 +229,20 @@ fn replays(rt: HostRuntime) -> Result<(), Fail> {
 }
 
 #[test]
-fn runs(rt: HostRuntime) -> Result<(), Fail> {
+fn texts_by_lines(rt: HostRuntime) -> Result<(), Fail> {
     let alloc = rt.alloc();
-    let script = parse(alloc, b"", Mode::Run)?;
-    assert_eq!(rt; script.producers.len(), 0);
-    let script = parse(
-        alloc,
-        b"producer\nflush\nbegin a\nproducer\n\nproducer\nupdatetx",
-        Mode::Replay,
-    );
-    assert!(rt; script.is_err());
-    let text = "# two\nproducer\nflush\nbegin a\ncommit a\nproducer\nbind a 9\n";
-    let script = parse(alloc, text.as_bytes(), Mode::Run)?;
-    let producers = script.producers.as_slice();
-    assert_eq!(rt; producers.len(), 2);
-    assert_eq!(rt; producers[0].len(), 3);
-    assert_eq!(rt; producers[1].len(), 1);
-    Ok(())
-}
-
-#[test]
-fn first_wrong_line(rt: HostRuntime) -> Result<(), Fail> {
-    let rows = [
-        (
-            "flush\nflush\n\n# x\nfrob 1\nfrob 2",
-            Mode::Replay,
-            5,
-            ScriptCause::UnknownWord,
-        ),
-        ("producer", Mode::Replay, 1, ScriptCause::UnknownWord),
-        ("tick 1", Mode::Run, 1, ScriptCause::UnknownWord),
-        (" # x", Mode::Replay, 1, ScriptCause::UnknownWord),
-        ("flush\r", Mode::Replay, 1, ScriptCause::UnknownWord),
-        ("add\t1 7 -", Mode::Replay, 1, ScriptCause::UnknownWord),
-        ("\nadd 1 7 -", Mode::Run, 2, ScriptCause::Section),
-        ("add 1 7", Mode::Replay, 1, ScriptCause::Arguments),
-        ("flush 1", Mode::Replay, 1, ScriptCause::Arguments),
-        ("begin A", Mode::Replay, 1, ScriptCause::Label),
-        (
-            "begin abcdefghijklmnopq",
-            Mode::Replay,
-            1,
-            ScriptCause::Label,
-        ),
-        ("commit a", Mode::Replay, 1, ScriptCause::Unbegun),
-        ("addtx a x y z", Mode::Replay, 1, ScriptCause::Unbegun),
-        (
-            "producer\nbegin a\nproducer\ncommit a",
-            Mode::Run,
-            4,
-            ScriptCause::Unbegun,
-        ),
-        ("add 1 256 -", Mode::Replay, 1, ScriptCause::Number),
-        (
-            "add 9223372036854775808 7 -",
-            Mode::Replay,
-            1,
-            ScriptCause::Number,
-        ),
-        (
-            "add 00000000000000000001 7 -",
-            Mode::Replay,
-            1,
-            ScriptCause::Number,
-        ),
-        ("add 1 0007 z", Mode::Replay, 1, ScriptCause::Number),
-        ("step 0", Mode::Replay, 1, ScriptCause::Number),
-        ("step 1000001", Mode::Replay, 1, ScriptCause::Number),
-        ("add 1 7 6", Mode::Replay, 1, ScriptCause::Hex),
-        (
-            "add 9223372036854775807 007 6g",
-            Mode::Replay,
-            1,
-            ScriptCause::Hex,
-        ),
-    ];
-    for (text, mode, line, cause) in rows {
-        assert!(rt; is_refused(rt.alloc(), text, mode, line, cause), "{text}");
+    for (text, times, mode, told) in ROWS {
+        let mut whole = String::new(alloc);
+        for _ in 0..*times {
+            whole.push_str(text)?;
+        }
+        check(&rt, alloc, whole.as_str(), *mode, *told)?;
     }
     Ok(())
 }
 
 #[test]
-fn sections_at_most(rt: HostRuntime) -> Result<(), Fail> {
-    let mut text = String::new(rt.alloc());
-    for _ in 0..64 {
-        text.push_str("producer\n")?;
-    }
-    let script = parse(rt.alloc(), text.as_bytes(), Mode::Run)?;
-    assert_eq!(rt; script.producers.len(), 64);
-    text.push_str("producer\n")?;
-    assert!(rt;
-        is_refused(
-            rt.alloc(),
-            text.as_str(),
-            Mode::Run,
-            65,
-            ScriptCause::Section
-        )
-    );
-    Ok(())
-}
-
-#[test]
-fn texts(rt: HostRuntime) -> Result<(), Fail> {
+fn fault_text(rt: HostRuntime) -> Result<(), Fail> {
     let fault = ScriptFault::At {
         line: 5,
         cause: ScriptCause::Unbegun,

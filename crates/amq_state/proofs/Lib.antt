@@ -6,4 +6,3 @@ pub mod EntryLaws
 pub mod TouchedLaws
 pub mod HeldLaws
 pub mod OpenLaws
-pub mod FedLaws

@@ -22,6 +22,3 @@ mod turn;
 
 pub use law::plain_result;
 pub use loading::{Loading, copy_spots};
-
-#[cfg(test)]
-mod tests;

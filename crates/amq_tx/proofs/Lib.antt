@@ -8,7 +8,6 @@ pub mod Refusals
 pub mod OneMore
 pub mod Steps
 pub mod Begins
-pub mod Rows
 pub mod WholeParts
 pub mod WholeCounts
 pub mod WholeOrder

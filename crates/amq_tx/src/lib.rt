@@ -23,6 +23,3 @@ mod whole;
 pub use law::{base_is_listed, follows_refused};
 pub use table::TxTable;
 pub use whole::{crash_leaves_kept, crash_leaves_whole, kept_of_earlier, part_of_front};
-
-#[cfg(test)]
-mod tests;

@@ -1,0 +1,3 @@
+-- Lemmas that the tests' proofs share.
+pub mod FeedingLemmas
+pub mod OpenTxLemmas
