@@ -1080,6 +1080,7 @@ const BROKERS: &[Row] = &[
             b"ok 0\ntx 1\nok 1\ntx 2\nok 2\nok 3\ndurable 4\ntx 3\nok 4\nok 5\nok 6\n",
             LEFT_OPEN_REPORT,
         ],
+        last: Some(Some(7)),
         ..REPLAYED
     },
     Row {
