@@ -1,6 +1,6 @@
 -- A journal that begins on the directory that was loaded.
 use Rattle.std.proofs.Common.{◌≡◌, ◌⊎◌, inl, inr, ℕ, ◌+◌, ◌-◌, ◌^◌, ◌<◌, ◌≤◌, false, List, [], ◌∷◌, ◌++◌, length, Option, None, Some, Result, Ok, Err, refl, sym, ◌∙◌, ap, subst, arith}
-use Rattle.std.specs.Prelude.{IfSome, OnOk, IsTrue, All, is_err, option_map, map as map_of}
+use Rattle.std.specs.Prelude.{IfSome, OnOk, IsTrue, All, is_err, option_map, take, map as map_of}
 use Rattle.std.specs.List.{AllByRecursion}
 use Rattle.std.specs.FinMap as finite
 use Rattle.std.proofs.lemmas.List.{append-nil}
@@ -10,7 +10,9 @@ use Rattle.amq_model.specs.Configs.{IsConfig}
 use Rattle.amq_model.specs.Names.{is_data, control_name}
 use Rattle.amq_model.specs.Files.{FileName, Files, File}
 use Rattle.amq_model.specs.Calls.{Past, content}
+use Rattle.amq_model.specs.declared.history.Step.{Step}
 use Rattle.amq_model.specs.Answers.{history_of}
+use Rattle.amq_model.specs.Legal.{rolled_back}
 use Rattle.amq_model.specs.Headline.{RecoversSince}
 use Rattle.amq_model.specs.Leaves.{Told, Leaves, Syncs, AllReads, HoldsSince, IsAt}
 use Rattle.amq_model.proofs.Chain.{told_then}
@@ -36,7 +38,7 @@ use Rattle.amq_engine.specs.declared.chronicle.Receipted.{Receipted}
 use Rattle.amq_engine.specs.Lists.{Lists, with_base, with_receipt}
 use Rattle.amq_engine.specs.Directory.{Stands, StandsNow, AreListed, HasName, named_file, all_files}
 use Rattle.amq_engine.specs.Engine.{rolling, Holds, IsValid, AreKept, IsTold, IsBlank, open_fault}
-use Rattle.amq_engine.specs.Opening.{HasNumbers, HasOpenCause, AreLeft}
+use Rattle.amq_engine.specs.Opening.{HasNumbers, HasOpenCause, AreLeft, AreFirstRollbacks, rollbacks_behind}
 use Rattle.amq_engine.specs.Receipts.{AreInOrder, IsLastCount, IsCrashSafe, Anything, GoesOn, BeginsBySyncs}
 use Rattle.amq_engine.proofs.Tidying.{tidy_made}
 use Rattle.amq_engine.proofs.Receipts.{if_some}
@@ -304,6 +306,18 @@ module _ (base : List Placed) (m : ℕ) (lists : Option Lists) (notes : IfSome l
 
   pub noted_base : (P : List Placed → Type 0) → P base → IfSome lists (λ l. IsBlank l ⊎ P l.base)
   noted_base P has = if_some (IsNoted base m) (λ l. IsBlank l ⊎ P l.base) lists (λ l n. inr (subst P (sym n.base_is) has)) notes
+
+  -- there is a receipt
+  pub noted_unblank : IfSome lists (λ l. l.receipts ≡ [] → IsBlank l)
+  noted_unblank = if_some (IsNoted base m) (λ l. l.receipts ≡ [] → IsBlank l) lists (λ l n none. absurd (let e : record { durable = 0; moment = m } ∷ [] ≡ [] = sym n.receipts ∙ none in cc)) notes
+
+  -- and no rollback yet
+  pub noted_rollbacks : (config : Config) (files before : ℕ) (h : Option Past) → Told h (HasNumbers files before) → IfSome lists (λ l. IsBlank l ⊎ Told h (AreFirstRollbacks config l))
+  noted_rollbacks config files before h had = if_some (IsNoted base m) (λ l. IsBlank l ⊎ Told h (AreFirstRollbacks config l)) lists (λ l n. inr (by h had l n.steps)) notes
+    where
+      by : (h : Option Past) → Told h (HasNumbers files before) → (l : Lists) → l.steps ≡ [] → Told h (AreFirstRollbacks config l)
+      by None had l none = tt
+      by (Some p) had l none = record { files = files; before = before; had = had; placed = subst (λ (ss : List Step). history_of ss ≡ take (length ss) (rollbacks_behind config (before + 1) 16 (rolled_back l.base))) (sym none) refl }
 
   pub noted_begins : (a b d : Option Past) → IfSome b (IsAt m) → Leaves Syncs Syncs a b → GoesOn b d → IfSome lists (λ l. BeginsBySyncs l.receipts a d)
   noted_begins a b d at syncs goes = if_some (IsNoted base m) (λ l. BeginsBySyncs l.receipts a d) lists (λ l n. subst (λ (rs : List Receipted). BeginsBySyncs rs a d) (sym n.receipts) (syncs_until Anything Anything m a b d at syncs goes)) notes

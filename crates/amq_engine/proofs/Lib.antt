@@ -21,6 +21,7 @@ pub mod Accepting
 pub mod Found
 pub mod Begun
 pub mod RollingBack
+pub mod Rollbacks
 pub mod Started
 pub mod ReceiptExamples
 pub mod EngineExamples

@@ -1,5 +1,6 @@
 -- What an opening finds and leaves, of literal directories and chronicles.
 use Rattle.std.proofs.Common.{◌≡◌, ◌⊎◌, inl, inr, ℕ, ◌+◌, ◌-◌, ◌^◌, ◌≤◌, Bool, true, false, cond, List, [], ◌∷◌, length, None, Some, option_map, codes, refl, sym, ap, subst, ◌∙◌, arith}
+use Rattle.std.specs.Prelude.{fold}
 use Rattle.std.specs.FinMap as finite
 use Rattle.std.specs.Ordering.{eq_by_cmp, nat_cmp}
 use Rattle.std.specs.Cmp.Lexicographic.{slice_cmp}
@@ -23,7 +24,7 @@ use Rattle.amq_model.specs.Files.{FileName, File, Files, Image, IsReading}
 use Rattle.amq_model.proofs.Literals.{unequal}
 use Rattle.amq_loader.specs.Loads.{highest_number}
 use Rattle.amq_engine.specs.Lists.{Lists}
-use Rattle.amq_engine.specs.Opening.{HasBase, HasNumbers, AreRolledBack, EndsIn, IsFilled, NeedsFile, HasOpenCause}
+use Rattle.amq_engine.specs.Opening.{HasBase, HasNumbers, AreRolledBack, AreFirstRollbacks, EndsIn, IsFilled, NeedsFile, HasOpenCause, rollback_behind, rollbacks_behind}
 
 -- ---- the directory
 
@@ -94,6 +95,10 @@ left_open = record { file = 1; place = 16; compact = 0; rec = r.AddTx 1 3 7 [] }
 abbrev rolls_back : ℕ → ℕ → ℕ → Step
 rolls_back tx file end = record { seat = 0; number = tx; command = Rollback tx; answer = Done (Appended (tx - 1)); placed = Some (record { file = file; place = end - 18; compact = 0; rec = r.Rollback tx }) }
 
+-- the record of a rollback
+abbrev rolled : ℕ → ℕ → ℕ → Placed
+rolled tx file place = record { file = file; place = place; compact = 0; rec = r.Rollback tx }
+
 is_its : (tx file end : ℕ) → IsOpeningStep tx tx (rolls_back tx file end)
 is_its tx file end = record { seat = refl; number = refl; command = refl }
 
@@ -106,6 +111,25 @@ not_one_alone h = let many : ◌≡◌ {A = ℕ} 1 2 = h.0 in omega (arith, many
 -- one that was refused isn't appended
 pub not_where_one_is_refused : AreRolledBack left_open (rolls_back 1 2 34 ∷ record { seat = 0; number = 2; command = Rollback 2; answer = Refused (FileIdsSpent 5); placed = None } ∷ []) → ⊥
 not_where_one_is_refused h = let many : ◌≡◌ {A = ℕ} 1 2 = h.1 in omega (arith, many)
+
+-- ---- where they stand
+
+-- two of them fill a file, and the third is the first of the next
+pub where_three_stand : rollbacks_behind config 8 16 (1 ∷ 2 ∷ 3 ∷ []) ≡ rolled 1 8 16 ∷ rolled 2 8 34 ∷ rolled 3 9 16 ∷ []
+where_three_stand = refl
+
+pub a_file_that_has_room_is_not_left : rollback_behind config 8 34 2 ≡ rolled 2 9 16 → ⊥
+a_file_that_has_room_is_not_left e = let file : ◌≡◌ {A = ℕ} 8 9 = ap (λ (p : Placed). p.file) e in omega (arith, file)
+
+pub the_first_was_appended : AreFirstRollbacks config (record { base = left_open; steps = rolls_back 1 8 34 ∷ []; receipts = [] }) files
+the_first_was_appended = record { files = 0; before = 7; had = the_numbers; placed = refl }
+
+-- no number is skipped
+pub not_in_the_file_behind_the_next : AreFirstRollbacks config (record { base = left_open; steps = rolls_back 1 9 34 ∷ []; receipts = [] }) files → ⊥
+not_in_the_file_behind_the_next h =
+    let first : record { file = 9; place = 16; compact = 0; rec = r.Rollback 1 } ∷ [] ≡ rolled 1 (h.before + 1) 16 ∷ [] = h.placed in
+    let file : 9 ≡ h.before + 1 = ap (λ (ps : List Placed). fold (λ _ p. p.file) 0 ps) first in
+    omega (arith, file, (no_data h.files h.before h.had).1)
 
 -- ---- where it ends
 
@@ -121,10 +145,10 @@ not_in_the_first_file h = let file : ◌≡◌ {A = ℕ} 2 3 = h.0 in omega (ari
 -- ---- files
 
 -- the new file and a prepared one make two
-pub two_files_are_enough : IsFilled config [] 8 16 9 (9 ∷ []) files
-two_files_are_enough = record { files = 0; before = 7; had = the_numbers; unspent = omega arith; begun = omega arith; within = omega arith; most = omega arith; ends = (refl, refl); prepared = refl; enough = inl (omega arith); no_more = inr (omega arith) }
+pub two_files_are_enough : IsFilled config [] [] 8 16 9 (9 ∷ []) files
+two_files_are_enough = record { files = 0; before = 7; had = the_numbers; unspent = omega arith; placed = refl; begun = omega arith; within = omega arith; most = omega arith; ends = (refl, refl); prepared = refl; enough = inl (omega arith); no_more = inr (omega arith) }
 
-pub one_is_not : IsFilled config [] 8 16 8 [] files → ⊥
+pub one_is_not : IsFilled config [] [] 8 16 8 [] files → ⊥
 one_is_not h = by h.enough (no_data h.files h.before h.had) where
   by : (2 ≤ h.files + (8 - h.before)) ⊎ (◌≡◌ {A = ℕ} 8 (2 ^ 31 - 1)) → (h.files ≡ 0) × (h.before ≡ 7) → ⊥
   by (inl many) are = omega (arith, many, are.0, are.1)
@@ -148,7 +172,7 @@ not_in_another_file h = let file : ◌≡◌ {A = ℕ} 5 2147483647 = h.2 in ome
 -- ---- why it failed
 
 pub spent_behind_a_rollback : HasOpenCause config (o.FileIdsSpent (2 ^ 31 - 1)) (Some full) None None (3, Some Read) (3, Some Read)
-spent_behind_a_rollback = (refl, inr (refl, the_next_needs_a_file))
+spent_behind_a_rollback = (refl, inr (refl, (the_next_needs_a_file, tt)))
 
 pub not_spent_at_five : HasOpenCause config (o.FileIdsSpent 5) (Some full) None None (3, None) (3, None) → ⊥
 not_spent_at_five (same, inl h) = omega (arith, h.0)

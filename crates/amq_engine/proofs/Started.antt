@@ -20,8 +20,8 @@ use Rattle.amq_engine.specs.declared.chronicle.Receipted.{Receipted}
 use Rattle.amq_engine.specs.declared.tail.Tail.{Tail}
 use Rattle.amq_engine.specs.Lists.{Lists}
 use Rattle.amq_engine.specs.Directory.{files_from}
-use Rattle.amq_engine.specs.Engine.{rolling, IsValid, with_files}
-use Rattle.amq_engine.specs.Opening.{HasNumbers, AreRolledBack, EndsIn, IsFilled, HasOpenCause, HasRollCause}
+use Rattle.amq_engine.specs.Engine.{rolling, IsValid, IsBlank, with_files}
+use Rattle.amq_engine.specs.Opening.{HasBase, HasNumbers, AreRolledBack, EndsIn, IsFilled, HasOpenCause, HasRollCause, NeedsFile, rollbacks_behind}
 use Rattle.amq_engine.specs.Receipts.{IsLastCount}
 use Rattle.amq_engine.proofs.Receipts.{if_some}
 use Rattle.amq_engine.proofs.Going.{files_many, files_are}
@@ -35,7 +35,7 @@ filled_by n file p q is none at = (
   ap (λ (r : PoolOf). r.prepared) is ∙ files_are n p ∙ ap (λ (l : List PoolFile). l ++ files_from (p.highest + 1) n) none ∙ ap (λ (k : ℕ). files_from (k + 1) n) at,
 )
 
-module _ (config : Config) (files before first file end highest n : ℕ) (free : List PoolFile) (history : List Placed) (begun : first ≡ before + 1) (later : first ≤ file) (most : highest ≤ 2 ^ 31 - 1)
+module _ (config : Config) (files before first file end highest n : ℕ) (free : List PoolFile) (txs : List ℕ) (history : List Placed) (placed : history ≡ rollbacks_behind config first 16 txs) (begun : first ≡ before + 1) (later : first ≤ file) (most : highest ≤ 2 ^ 31 - 1)
     (many : n ≡ min (config.min_files - (files + (file + 1 - first))) (2 ^ 31 - 1 - file)) (up : highest ≡ file + n) (prepared : free ≡ files_from (file + 1) n) (ends : EndsIn first history file end) where
   abbrev missing : ℕ
   missing = config.min_files - (files + (file + 1 - first))
@@ -43,12 +43,13 @@ module _ (config : Config) (files before first file end highest n : ℕ) (free :
   abbrev left : ℕ
   left = 2 ^ 31 - 1 - file
 
-  filled : (s : Files) → HasNumbers files before s → before < 2 ^ 31 - 1 → IsFilled config history file end highest (ids_of free) s
+  filled : (s : Files) → HasNumbers files before s → before < 2 ^ 31 - 1 → IsFilled config txs history file end highest (ids_of free) s
   filled s had unspent = record {
     files = files;
     before = before;
     had = had;
     unspent = unspent;
+    placed = placed ∙ ap (λ (k : ℕ). rollbacks_behind config k 16 txs) begun;
     begun = omega (arith, begun, later);
     within = omega (arith, up);
     most = most;
@@ -68,13 +69,15 @@ module _ (config : Config) (files before first file end highest n : ℕ) (free :
       more false e = inl (omega (arith, ltb-false 0 n e, up))
 
 -- so it is of what is told
-pub told_filled : (config : Config) (files first file end highest n : ℕ) (free : List PoolFile) (lists : Option Lists) (h : Option Past) → first ≤ file → highest ≤ 2 ^ 31 - 1 → n ≡ min (config.min_files - (files + (file + 1 - first))) (2 ^ 31 - 1 - file) → highest ≡ file + n
+pub told_filled : (config : Config) (files first file end highest n : ℕ) (free : List PoolFile) (txs : List ℕ) (base : List Placed) (lists : Option Lists) (h : Option Past) → first ≤ file → highest ≤ 2 ^ 31 - 1 → n ≡ min (config.min_files - (files + (file + 1 - first))) (2 ^ 31 - 1 - file) → highest ≡ file + n
     → free ≡ files_from (file + 1) n → IfSome lists (λ l. EndsIn first (history_of l.steps) file end) → Told h (λ s. (before : ℕ) × HasNumbers files before s × (first ≡ before + 1) × (before < 2 ^ 31 - 1))
-    → IfSome lists (λ l. Told h (IsFilled config (history_of l.steps) file end highest (ids_of free)))
-told_filled config files first file end highest n free lists None later most many up prepared ends had = if_some (λ l. EndsIn first (history_of l.steps) file end) (λ l. Unit {0}) lists (λ l e. tt) ends
-told_filled config files first file end highest n free lists (Some p) later most many up prepared ends had =
-    if_some (λ l. EndsIn first (history_of l.steps) file end) (λ l. IsFilled config (history_of l.steps) file end highest (ids_of free) (content p.start p.calls)) lists
-    (λ l e. filled config files had.0 first file end highest n free (history_of l.steps) had.2 later most many up prepared e (content p.start p.calls) had.1 had.3) ends
+    → txs ≡ rolled_back base → IfSome lists (λ l. l.base ≡ base) → IfSome lists (λ l. history_of l.steps ≡ rollbacks_behind config first 16 txs)
+    → IfSome lists (λ l. Told h (IsFilled config (rolled_back l.base) (history_of l.steps) file end highest (ids_of free)))
+told_filled config files first file end highest n free txs base None h later most many up prepared ends had same based placed = tt
+told_filled config files first file end highest n free txs base (Some l) None later most many up prepared ends had same based placed = tt
+told_filled config files first file end highest n free txs base (Some l) (Some p) later most many up prepared ends had same based placed =
+    subst (λ (ts : List ℕ). IsFilled config ts (history_of l.steps) file end highest (ids_of free) (content p.start p.calls)) (same ∙ ap rolled_back (sym based))
+    (filled config files had.0 first file end highest n free txs (history_of l.steps) placed had.2 later most many up prepared ends (content p.start p.calls) had.1 had.3)
 
 -- ---- the chronicle
 
@@ -127,9 +130,19 @@ on_err (Err e) P p = p
 -- ---- why it failed
 
 -- a rollback that failed, behind calls of which none did
-pub roll_cause : (fault : OpenFault) (config : Config) (lists : Option Lists) (old new : Option Past) (was mid now : Faults) → was.0 ≤ mid.0 → mid.1 ≡ was.1 → HasRollCause config fault lists mid now → HasOpenCause config fault lists old new was now
-roll_cause o.NotBuilt config lists old new was mid now later same cause = absurd cause
-roll_cause (o.Directory found) config lists old new was mid now later same cause = absurd cause
-roll_cause (o.FileIdsSpent highest) config lists old new was mid now later same cause = (cause.2 ∙ same, inr (cause.0, cause.1))
-roll_cause (o.Disk call) config lists old new was mid now later same cause = (omega (arith, later, cause.0), cause.1)
-roll_cause o.NoMemory config lists old new was mid now later same cause = cause ∙ same
+pub roll_cause : (fault : OpenFault) (config : Config) (lists : Option Lists) (old new : Option Past) (was mid now : Faults) → was.0 ≤ mid.0 → mid.1 ≡ was.1 → IfSome lists (λ l. Told old (HasBase config.user_version l.base)) → HasRollCause config fault lists mid now → HasOpenCause config fault lists old new was now
+roll_cause o.NotBuilt config lists old new was mid now later same based cause = absurd cause
+roll_cause (o.Directory found) config lists old new was mid now later same based cause = absurd cause
+roll_cause (o.FileIdsSpent highest) config lists old new was mid now later same based cause = (cause.2 ∙ same, inr (cause.0, both lists cause.1 based))
+  where
+    both : (lists : Option Lists) → IfSome lists (NeedsFile config) → IfSome lists (λ l. Told old (HasBase config.user_version l.base)) → IfSome lists (λ l. NeedsFile config l × Told old (HasBase config.user_version l.base))
+    both None needs based = tt
+    both (Some l) needs based = (needs, based)
+roll_cause (o.Disk call) config lists old new was mid now later same based cause = (omega (arith, later, cause.0), cause.1)
+roll_cause o.NoMemory config lists old new was mid now later same based cause = cause ∙ same
+
+-- ---- what was noted
+
+-- a chronicle with a receipt isn't blank
+pub unblank : (lists : Option Lists) → IfSome lists (λ l. l.receipts ≡ [] → ⊥) → IfSome lists (λ l. l.receipts ≡ [] → IsBlank l)
+unblank lists some = if_some (λ l. l.receipts ≡ [] → ⊥) (λ l. l.receipts ≡ [] → IsBlank l) lists (λ l no none. absurd (no none)) some

@@ -1,5 +1,5 @@
 -- What a chronicle tells.
-use Rattle.std.specs.Prelude.{ℕ, List, [], ◌∷◌, ◌++◌}
+use Rattle.std.specs.Prelude.{ℕ, List, [], ◌∷◌, ◌++◌, Option, option_map}
 use Rattle.amq_model.specs.declared.record.Placed.{Placed}
 use Rattle.amq_model.specs.declared.history.Step.{Step}
 use Rattle.amq_engine.specs.declared.chronicle.Receipted.{Receipted}
@@ -21,3 +21,7 @@ with_step s l = record { base = l.base; steps = l.steps ++ s ∷ []; receipts = 
 -- the same with one more receipt
 abbrev pub with_receipt : ℕ → ℕ → Lists → Lists
 with_receipt durable moment l = record { base = l.base; steps = l.steps; receipts = l.receipts ++ record { durable = durable; moment = moment } ∷ [] }
+
+-- the steps of a chronicle that tells them
+abbrev pub steps_in : Option Lists → Option (List Step)
+steps_in lists = option_map (λ l. l.steps) lists

@@ -1,13 +1,15 @@
 -- What an opening finds, and what it leaves.
-use Rattle.std.specs.Prelude.{◌≡◌, ◌⊎◌, ℕ, ◌+◌, ◌-◌, ◌^◌, ◌<◌, ◌≤◌, fold, List, length, All, Contains, true, false, Option, None, Some, IsTrue, IfSome}
+use Rattle.std.specs.Prelude.{◌≡◌, ◌⊎◌, ℕ, ◌+◌, ◌-◌, ◌^◌, ◌<◌, ◌≤◌, nat_lt, if◌then◌else◌, fold, List, [], ◌∷◌, length, take, All, Contains, true, false, Option, None, Some, IsTrue, IfSome}
 use Rattle.std.specs.FinMap as finite
 use Rattle.amq_model.specs.declared.config.Config.{Config}
 use Rattle.amq_model.specs.declared.record.Placed.{Placed}
+use Rattle.amq_model.specs.declared.record.Record.TheVariants as r
 use Rattle.amq_model.specs.declared.history.Step.{Step}
 use Rattle.amq_model.specs.declared.command.Command.TheVariants.{Rollback}
 use Rattle.amq_model.specs.declared.directory.OpenFault.{OpenFault}
 use Rattle.amq_model.specs.declared.directory.OpenFault.TheVariants as o
 use Rattle.amq_model.specs.Names.{is_data, control_name}
+use Rattle.amq_model.specs.RecordAt.{len_of}
 use Rattle.amq_model.specs.Directory.{IsRead, data_files, fault}
 use Rattle.amq_model.specs.Answers.{history_of}
 use Rattle.amq_model.specs.Legal.{rolled_back, needs_file, end_of, OpensPartly}
@@ -43,16 +45,34 @@ pub record HasNumbers (files highest : ℕ) (s : Files) : Type 0 where
 abbrev pub AreRolledBack : List Placed → List Step → Type 0
 AreRolledBack base steps = (length steps ≡ length (rolled_back base)) × (length (history_of steps) ≡ length (rolled_back base)) × OpensPartly 1 (rolled_back base) steps
 
+-- where a rollback stands behind what ends there in that file: right there, where it ends within the file size, else first in the file with the next number
+abbrev pub rollback_behind : Config → ℕ → ℕ → ℕ → Placed
+rollback_behind config file end tx =
+    if nat_lt config.file_size (end + len_of (r.Rollback tx)) then record { file = file + 1; place = 16; compact = 0; rec = r.Rollback tx } else record { file = file; place = end; compact = 0; rec = r.Rollback tx }
+
+-- the rollbacks of these transactions, one behind the other
+abbrev pub rollbacks_behind : Config → ℕ → ℕ → List ℕ → List Placed
+rollbacks_behind config file end [] = []
+rollbacks_behind config file end (tx ∷ txs) = let p = rollback_behind config file end tx in p ∷ rollbacks_behind config p.file (p.place + len_of p.rec) txs
+
+-- Each step appended its record, and these are the first of the base's rollbacks, from the head of the file on that has the number behind all that there were.
+pub record AreFirstRollbacks (config : Config) (l : Lists) (s : Files) : Type 0 where
+  pub files : ℕ
+  pub before : ℕ
+  pub had : HasNumbers files before s
+  pub placed : history_of l.steps ≡ take (length l.steps) (rollbacks_behind config (before + 1) 16 (rolled_back l.base))
+
 -- The file in use is that of the last append, or the one that was begun, and the last append ends there.
 abbrev pub EndsIn : ℕ → List Placed → ℕ → ℕ → Type 0
 EndsIn first history file end = (file ≡ fold (λ _ p. p.file) first history) × (end ≡ end_of history)
 
--- The file in use has a number above those that there were, and the prepared files have those behind it; they are as many as make the least number of files, unless numbers are spent, and no more.
-pub record IsFilled (config : Config) (history : List Placed) (file end highest : ℕ) (free : List ℕ) (s : Files) : Type 0 where
+-- The history is the rollbacks of these transactions, from the head of the file on that has the number behind all that there were; the file in use is that of the last one, and the prepared files have the numbers behind it; they are as many as make the least number of files, unless numbers are spent, and no more.
+pub record IsFilled (config : Config) (txs : List ℕ) (history : List Placed) (file end highest : ℕ) (free : List ℕ) (s : Files) : Type 0 where
   pub files : ℕ
   pub before : ℕ
   pub had : HasNumbers files before s
   pub unspent : before < 2 ^ 31 - 1
+  pub placed : history ≡ rollbacks_behind config (before + 1) 16 txs
   pub begun : before < file
   pub within : file ≤ highest
   pub most : highest ≤ 2 ^ 31 - 1
@@ -70,7 +90,7 @@ abbrev pub HasOpenCause : Config → OpenFault → Option Lists → Option Past 
 HasOpenCause config o.NotBuilt lists old new was now = OnlyAsks old new × Told old (IsThere control_name) × IfSome lists IsBlank × (now.1 ≡ was.1)
 HasOpenCause config (o.Directory found) lists old new was now = OnlyAsks old new × Told old (IsFaulty config.user_version found) × IfSome lists IsBlank × (now.1 ≡ was.1)
 HasOpenCause config (o.FileIdsSpent highest) lists old new was now =
-    (now.1 ≡ was.1) × (((2 ^ 31 - 1 ≤ highest) × OnlyAsks old new × IfSome lists IsBlank × Told old (λ s. (files : ℕ) × (base : List Placed) × HasBase config.user_version base s × HasNumbers files highest s)) ⊎ ((highest ≡ 2 ^ 31 - 1) × IfSome lists (NeedsFile config)))
+    (now.1 ≡ was.1) × (((2 ^ 31 - 1 ≤ highest) × OnlyAsks old new × IfSome lists IsBlank × Told old (λ s. (files : ℕ) × (base : List Placed) × HasBase config.user_version base s × HasNumbers files highest s)) ⊎ ((highest ≡ 2 ^ 31 - 1) × IfSome lists (λ l. NeedsFile config l × Told old (HasBase config.user_version l.base))))
 HasOpenCause config (o.Disk call) lists old new was now = Rose was.0 now.0 × (now.1 ≡ Some call)
 HasOpenCause config o.NoMemory lists old new was now = now.1 ≡ was.1
 

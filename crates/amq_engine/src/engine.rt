@@ -4,13 +4,13 @@ ghost use Rattle.amq_model.specs.Configs.{IsConfig};
 ghost use Rattle.amq_model.specs.Calls.{counted};
 ghost use Rattle.amq_model.specs.Leaves.{Told};
 ghost use Rattle.amq_model.specs.Effect.{result_of};
-ghost use Rattle.amq_model.specs.Legal.{AreLegalOfRefused};
+ghost use Rattle.amq_model.specs.Legal.{AreLegalOfRefused, rolled_back};
 ghost use Rattle.amq_model.specs.declared.refusal.DiskCall.{DiskCall};
 ghost use Rattle.amq_model.specs.Answers.{history_of, refusal};
 ghost use Rattle.amq_buffer.specs.Buffered.{is_due};
 ghost use Rattle.amq_loader.specs.Loads.{IsStateOf, IsTidy};
 ghost use Rattle.amq_engine.specs.Directory.{IsJournal};
-ghost use Rattle.amq_engine.specs.Opening.{HasBase, AreRolledBack, IsFilled, HasOpenCause};
+ghost use Rattle.amq_engine.specs.Opening.{HasBase, AreRolledBack, AreFirstRollbacks, IsFilled, HasOpenCause};
 ghost use Rattle.amq_engine.specs.Receipts.{IsCrashSafe, GoesOn, BeginsBySyncs};
 ghost use Rattle.amq_engine.specs.Engine.{Notes, IsCommandAnswer, IsCommandRefusal, IsChronicle, IsBlank, HasCause, IsFlushRefusal, closed_after, durable_after, fault_refusal, closed_by, receipted, IsReply, prepares, asks_disk, flushed, behind_command, BehindRefused, behind_tick, must_flush, at_clock};
 
@@ -114,7 +114,7 @@ impl<D: Disk, C: Chronicle> Engine<D, C> {
         ensures tidy { IfOk result (λ e. Told (D.past e.0.disk) IsTidy) }
         ensures loaded { IfOk result (λ e. Told (D.past disk) (IsStateOf config.user_version e.1)) }
         ensures rolled { IfOk result (λ e. IfSome (C.lists e.0.chronicle) (λ l. AreRolledBack l.base l.steps)) }
-        ensures files { IfOk result (λ e. IfSome (C.lists e.0.chronicle) (λ l. Told (D.past disk) (IsFilled config (history_of l.steps) e.0.file e.0.end e.0.highest e.0.free))) }
+        ensures files { IfOk result (λ e. IfSome (C.lists e.0.chronicle) (λ l. Told (D.past disk) (IsFilled config (rolled_back l.base) (history_of l.steps) e.0.file e.0.end e.0.highest e.0.free))) }
         ensures content { IfOk result (λ e. IfSome (C.lists e.0.chronicle) (λ l. Told (D.past e.0.disk) (IsJournal config.user_version l.base (history_of l.steps)))) }
         ensures later { IfOk result (λ e. (D.faults disk).0 ≤ (D.faults e.0.disk).0) }
         ensures failed { IfOk result (λ e. (D.faults e.0.disk).1 ≡ (D.faults disk).1) }
@@ -126,6 +126,8 @@ impl<D: Disk, C: Chronicle> Engine<D, C> {
         // Each receipt is kept, also where the opening failed behind the first; before it, nothing new is left.
         ensures failed_safe { IfErr result (λ e. IfSome (C.lists e.chronicle) (IsCrashSafe (D.past e.disk) (D.moment e.disk) config.user_version)) }
         ensures failed_base { IfErr result (λ e. IfSome (C.lists e.chronicle) (λ l. IsBlank l ⊎ Told (D.past disk) (HasBase config.user_version l.base))) }
+        ensures failed_rollbacks { IfErr result (λ e. IfSome (C.lists e.chronicle) (λ l. IsBlank l ⊎ Told (D.past disk) (AreFirstRollbacks config l))) }
+        ensures failed_unnoted { IfErr result (λ e. IfSome (C.lists e.chronicle) (λ l. l.receipts ≡ [] → IsBlank l)) }
         ensures begins { IfOk result (λ e. IfSome (C.lists e.0.chronicle) (λ l. BeginsBySyncs l.receipts (D.past disk) (D.past e.0.disk))) }
         ensures failed_begins { IfErr result (λ e. IfSome (C.lists e.chronicle) (λ l. BeginsBySyncs l.receipts (D.past disk) (D.past e.disk))) }
         ensures chronicle { IfOk result (λ e. IfSome (C.lists e.0.chronicle) (IsChronicle (D.past e.0.disk) (D.moment e.0.disk) config e.0.appended e.0.durable)) }

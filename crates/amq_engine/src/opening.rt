@@ -16,7 +16,7 @@ ghost use Rattle.amq_engine.specs.Directory.{Stands};
 ghost use Rattle.amq_engine.specs.Lists.{Lists, with_base, with_receipt};
 ghost use Rattle.amq_engine.specs.Receipts.{IsCrashSafe, GoesOn, BeginsBySyncs};
 ghost use Rattle.amq_engine.specs.Engine.{rolling, IsValid, IsBlank, Holds, open_fault};
-ghost use Rattle.amq_engine.specs.Opening.{HasBase, HasNumbers, HasOpenCause, load_fault, AreLeft};
+ghost use Rattle.amq_engine.specs.Opening.{HasBase, HasNumbers, AreFirstRollbacks, HasOpenCause, load_fault, AreLeft};
 
 use crate::chronicle::Chronicle;
 use crate::moving::MOST_NUMBER;
@@ -252,6 +252,8 @@ pub fn begin<D: Disk, C: Chronicle>(
     ensures unstepped { IfSome (C.lists chronicle.new) (λ l. l.steps ≡ []) }
     ensures crash_safe { IfSome (C.lists chronicle.new) (IsCrashSafe (D.past disk.new) (D.moment disk.new) config.now.user_version) }
     ensures base { IfSome (C.lists chronicle.new) (λ l. IsBlank l ⊎ Told (D.past disk.old) (HasBase config.now.user_version l.base)) }
+    ensures rollbacks { IfSome (C.lists chronicle.new) (λ l. IsBlank l ⊎ Told (D.past disk.old) (AreFirstRollbacks config.now l)) }
+    ensures unnoted { IfSome (C.lists chronicle.new) (λ l. l.receipts ≡ [] → IsBlank l) }
     ensures begins { IfSome (C.lists chronicle.new) (λ l. BeginsBySyncs l.receipts (D.past disk.old) (D.past disk.new)) }
 {
     let Found {

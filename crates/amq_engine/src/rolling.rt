@@ -1,15 +1,17 @@
 //! The rollbacks of an opening: of each transaction that was left open and isn't prepared.
-ghost use Rattle.std.specs.Prelude.{◌≡◌, ◌+◌, ◌^◌, ◌<◌, ◌≤◌, ℕ, List, [], length, slice_get, Some, option_map, IfSome, IfErr, OnOk, OnErr};
+ghost use Rattle.std.specs.Prelude.{◌≡◌, ◌+◌, ◌^◌, ◌<◌, ◌≤◌, ◌++◌, ◌∷◌, ℕ, List, [], length, take, slice_get, Some, option_map, IfSome, IfErr, OnOk, OnErr};
 ghost use Rattle.amq_model.specs.declared.record.Placed.{Placed};
+ghost use Rattle.amq_model.specs.declared.history.Step.{Step};
 ghost use Rattle.amq_model.specs.Answers.{history_of};
 ghost use Rattle.amq_model.specs.Legal.{rolled_back};
 ghost use Rattle.amq_model.specs.Leaves.{Told};
 ghost use Rattle.amq_tx.specs.Tables.{state_of};
 ghost use Rattle.amq_loader.specs.Loads.{IsTidy};
 ghost use Rattle.amq_engine.specs.declared.chronicle.Receipted.{Receipted};
+ghost use Rattle.amq_engine.specs.Lists.{steps_in};
 ghost use Rattle.amq_engine.specs.Receipts.{GoesOn, StartsWith};
 ghost use Rattle.amq_engine.specs.Engine.{rolling, IsValid, end_of_tail};
-ghost use Rattle.amq_engine.specs.Opening.{EndsIn, HasRollCause};
+ghost use Rattle.amq_engine.specs.Opening.{EndsIn, HasRollCause, rollback_behind, rollbacks_behind};
 
 use crate::chronicle::Chronicle;
 use crate::commands::{make_room, number_refusal};
@@ -45,6 +47,8 @@ pub fn roll_back<D: Disk, C: Chronicle>(
         → (n : ℕ) × IsValid (rolling base n) (D.past disk.new) (D.moment disk.new) (C.lists chronicle.new) (C.receipt_room chronicle.new) config.now (state_of table.new) pool.new tail.new) }
     ensures base { option_map (λ l. l.base) (C.lists chronicle.new) ≡ option_map (λ l. l.base) (C.lists chronicle.old) }
     ensures ends { OnOk result (IfSome (C.lists chronicle.new) (λ l. EndsIn tail.old.file.id (history_of l.steps) tail.new.file.id (end_of_tail tail.new))) }
+    ensures placed { IfSome (C.lists chronicle.new) (λ l. history_of l.steps ≡ take (length l.steps) (rollbacks_behind config.now tail.old.file.id 16 txs.now)) }
+    ensures all { OnOk result (IfSome (C.lists chronicle.new) (λ l. length l.steps ≡ length txs.now)) }
     ensures begun { OnOk result ((pool.new.prepared ≡ []) × (pool.new.highest ≡ tail.new.file.id)) }
     ensures later_file { OnOk result (tail.old.file.id ≤ tail.new.file.id) }
     ensures cause { IfErr result (λ fault. HasRollCause config.now fault (C.lists chronicle.new) (D.faults disk.old) (D.faults disk.new)) }
@@ -84,6 +88,8 @@ fn roll_back_next<D: Disk, C: Chronicle>(
         → IsValid (rolling base done) (D.past disk.new) (D.moment disk.new) (C.lists chronicle.new) (C.receipt_room chronicle.new) config.now (state_of table.new) pool.new tail.new) }
     ensures base { option_map (λ l. l.base) (C.lists chronicle.new) ≡ option_map (λ l. l.base) (C.lists chronicle.old) }
     ensures ends { OnOk result (IfSome (C.lists chronicle.new) (λ l. (first : ℕ) → EndsIn first (history_of l.steps) tail.new.file.id (end_of_tail tail.new))) }
+    ensures stepped { OnOk result ((x : Step) × (x.placed ≡ Some (rollback_behind config.now tail.old.file.id (end_of_tail tail.old) tx)) × (steps_in (C.lists chronicle.new) ≡ option_map (λ ss. ss ++ x ∷ []) (steps_in (C.lists chronicle.old)))) }
+    ensures unstepped { OnErr result (steps_in (C.lists chronicle.new) ≡ steps_in (C.lists chronicle.old)) }
     ensures begun { OnOk result ((pool.new.prepared ≡ []) × (pool.new.highest ≡ tail.new.file.id)) }
     ensures later_file { OnOk result (tail.old.file.id ≤ tail.new.file.id) }
     ensures cause { IfErr result (λ fault. HasRollCause config.now fault (C.lists chronicle.new) (D.faults disk.old) (D.faults disk.new)) }

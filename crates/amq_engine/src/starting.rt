@@ -1,5 +1,5 @@
 //! An opening, from the directory to the parts of an engine.
-ghost use Rattle.std.specs.Prelude.{◌≡◌, ◌⊎◌, ◌+◌, ◌-◌, ◌^◌, ◌≤◌, ℕ, List, [], length, min, option_map, None, IfSome, IfOk, IfErr, OnOk, OnErr};
+ghost use Rattle.std.specs.Prelude.{◌≡◌, ◌⊎◌, ◌+◌, ◌-◌, ◌^◌, ◌≤◌, ℕ, List, [], length, take, min, option_map, None, IfSome, IfOk, IfErr, OnOk, OnErr};
 ghost use Rattle.amq_model.specs.declared.record.Placed.{Placed};
 ghost use Rattle.amq_model.specs.Configs.{IsConfig};
 ghost use Rattle.amq_model.specs.Effect.{result_of};
@@ -13,7 +13,7 @@ ghost use Rattle.amq_engine.specs.declared.chronicle.Receipted.{Receipted};
 ghost use Rattle.amq_engine.specs.Directory.{files_from};
 ghost use Rattle.amq_engine.specs.Receipts.{IsCrashSafe, GoesOn, BeginsBySyncs, StartsWith};
 ghost use Rattle.amq_engine.specs.Engine.{opened, rolling, IsValid, IsBlank, end_of_tail};
-ghost use Rattle.amq_engine.specs.Opening.{HasBase, AreRolledBack, EndsIn, IsFilled, HasOpenCause, HasRollCause};
+ghost use Rattle.amq_engine.specs.Opening.{HasBase, AreRolledBack, AreFirstRollbacks, EndsIn, IsFilled, HasOpenCause, HasRollCause, rollbacks_behind};
 
 use crate::chronicle::Chronicle;
 use crate::moving::{FIRST_PLACE, fill_pool};
@@ -61,6 +61,8 @@ fn complete<D: Disk, C: Chronicle>(
     ensures base { option_map (λ l. l.base) (C.lists chronicle.new) ≡ option_map (λ l. l.base) (C.lists chronicle.old) }
     ensures flushed { OnOk result (tail.new.buffer.since ≡ None) }
     ensures ends { OnOk result (IfSome (C.lists chronicle.new) (λ l. EndsIn tail.old.file.id (history_of l.steps) tail.new.file.id (end_of_tail tail.new))) }
+    ensures placed { IfSome (C.lists chronicle.new) (λ l. history_of l.steps ≡ take (length l.steps) (rollbacks_behind config.now tail.old.file.id 16 txs.now)) }
+    ensures all { OnOk result (IfSome (C.lists chronicle.new) (λ l. length l.steps ≡ length txs.now)) }
     ensures later_file { OnOk result (tail.old.file.id ≤ tail.new.file.id) }
     ensures filled { OnOk result (let n = min (config.now.min_files - (files + (tail.new.file.id + 1 - tail.old.file.id))) (2 ^ 31 - 1 - tail.new.file.id) in (pool.new.highest ≡ tail.new.file.id + n) × (pool.new.prepared ≡ files_from (tail.new.file.id + 1) n)) }
     ensures cause { IfErr result (λ fault. HasRollCause config.now fault (C.lists chronicle.new) (D.faults disk.old) (D.faults disk.new)) }
@@ -99,7 +101,7 @@ pub fn start<D: Disk, C: Chronicle>(
     ensures tidy { OnOk result (Told (D.past disk.new) IsTidy) }
     ensures loaded { IfOk result (λ s. Told (D.past disk.old) (IsStateOf config.now.user_version s.state)) }
     ensures rolled { OnOk result (IfSome (C.lists chronicle.new) (λ l. AreRolledBack l.base l.steps)) }
-    ensures files { IfOk result (λ s. IfSome (C.lists chronicle.new) (λ l. Told (D.past disk.old) (IsFilled config.now (history_of l.steps) s.tail.file.id (end_of_tail s.tail) s.pool.highest (ids_of s.pool.prepared)))) }
+    ensures files { IfOk result (λ s. IfSome (C.lists chronicle.new) (λ l. Told (D.past disk.old) (IsFilled config.now (rolled_back l.base) (history_of l.steps) s.tail.file.id (end_of_tail s.tail) s.pool.highest (ids_of s.pool.prepared)))) }
     ensures faults { OnOk result ((D.faults disk.new).1 ≡ (D.faults disk.old).1) }
     ensures later { (D.faults disk.old).0 ≤ (D.faults disk.new).0 }
     ensures cause { IfErr result (λ fault. HasOpenCause config.now fault (C.lists chronicle.new) (D.past disk.old) (D.past disk.new) (D.faults disk.old) (D.faults disk.new)) }
@@ -107,6 +109,8 @@ pub fn start<D: Disk, C: Chronicle>(
     ensures failed_appended { OnErr result (IfSome (C.lists chronicle.new) (λ l. length (history_of l.steps) ≡ length l.steps)) }
     ensures failed_safe { OnErr result (IfSome (C.lists chronicle.new) (IsCrashSafe (D.past disk.new) (D.moment disk.new) config.now.user_version)) }
     ensures failed_base { OnErr result (IfSome (C.lists chronicle.new) (λ l. IsBlank l ⊎ Told (D.past disk.old) (HasBase config.now.user_version l.base))) }
+    ensures failed_rollbacks { OnErr result (IfSome (C.lists chronicle.new) (λ l. IsBlank l ⊎ Told (D.past disk.old) (AreFirstRollbacks config.now l))) }
+    ensures unnoted { IfSome (C.lists chronicle.new) (λ l. l.receipts ≡ [] → IsBlank l) }
     ensures begins { IfSome (C.lists chronicle.new) (λ l. BeginsBySyncs l.receipts (D.past disk.old) (D.past disk.new)) }
 {
     let Ok(buffer) = TimedBuffer::new(alloc, config.buffer_size, config.buffer_timeout) else {

@@ -8,8 +8,8 @@ use Rattle.amq_pool.specs.declared.pool.PoolFile.{PoolFile}
 use Rattle.amq_pool.specs.Pools.{PoolOf}
 use Rattle.amq_engine.specs.Lists.{with_base, with_receipt}
 use Rattle.amq_engine.specs.Engine.{Holds, IsBlank}
-use Rattle.amq_engine.specs.Opening.{HasBase, HasOpenCause}
-use Rattle.amq_engine.proofs.Begun.{IsNoted, noted, noted_safe, base_now, begun_valid, blank_safe, still_blank, noted_steps, noted_base, noted_begins, noted_lists, told_begun, behind_fault, when_fine}
+use Rattle.amq_engine.specs.Opening.{HasBase, AreFirstRollbacks, HasOpenCause}
+use Rattle.amq_engine.proofs.Begun.{IsNoted, noted, noted_safe, base_now, begun_valid, blank_safe, still_blank, noted_steps, noted_base, noted_unblank, noted_rollbacks, noted_begins, noted_lists, told_begun, behind_fault, when_fine}
 use Rattle.amq_engine.proofs.Commanding.{when_err}
 use Rattle.amq_engine.proofs.Beginning.{begins_blank}
 use Rattle.amq_engine.proofs.opening.begin.Goals as goal
@@ -202,3 +202,69 @@ returns-then-is_err-clause-begins g c =
     let lists = g.C.Chronicle.lists in
     let same : lists c.note.new.chronicle ≡ lists c.args.chronicle.now = when_err c.note.result (lists c.note.new.chronicle ≡ lists c.args.chronicle.now) (sym c.is_err.ensures.value ∙ c.if-is_err.true) c.note.ensures.err in
     begins_blank (lists c.args.chronicle.now) (lists c.note.new.chronicle) (g.D.Disk.past c.args.disk.now) (g.D.Disk.past c.find.new.disk) same c.requires.blank c.find.ensures.crash
+
+pub returns-then-is_err-clause-unnoted : goal.returns-then-is_err-clause-unnoted
+returns-then-is_err-clause-unnoted g c =
+    let lists = g.C.Chronicle.lists in
+    let same : lists c.note.new.chronicle ≡ lists c.args.chronicle.now = when_err c.note.result (lists c.note.new.chronicle ≡ lists c.args.chronicle.now) (sym c.is_err.ensures.value ∙ c.if-is_err.true) c.note.ensures.err in
+    still_blank (λ l. l.receipts ≡ [] → IsBlank l) (lists c.args.chronicle.now) (lists c.note.new.chronicle) same (λ l blank none. blank) c.requires.blank
+
+pub returns-then-is_err-clause-rollbacks : goal.returns-then-is_err-clause-rollbacks
+returns-then-is_err-clause-rollbacks g c =
+    let lists = g.C.Chronicle.lists in
+    let same : lists c.note.new.chronicle ≡ lists c.args.chronicle.now = when_err c.note.result (lists c.note.new.chronicle ≡ lists c.args.chronicle.now) (sym c.is_err.ensures.value ∙ c.if-is_err.true) c.note.ensures.err in
+    still_blank (λ l. IsBlank l ⊎ Told (g.D.Disk.past c.args.disk.now) (AreFirstRollbacks c.args.config.now l)) (lists c.args.chronicle.now) (lists c.note.new.chronicle) same (λ l blank. inl blank) c.requires.blank
+
+pub returns-in_err-loaded-clause-unnoted : goal.returns-in_err-loaded-clause-unnoted
+returns-in_err-loaded-clause-unnoted g c =
+    let lists = g.C.Chronicle.lists c.args.chronicle.now in
+    still_blank (λ l. l.receipts ≡ [] → IsBlank l) lists lists refl (λ l blank none. blank) c.requires.blank
+
+pub returns-in_err-loaded-clause-rollbacks : goal.returns-in_err-loaded-clause-rollbacks
+returns-in_err-loaded-clause-rollbacks g c =
+    let lists = g.C.Chronicle.lists c.args.chronicle.now in
+    still_blank (λ l. IsBlank l ⊎ Told (g.D.Disk.past c.args.disk.now) (AreFirstRollbacks c.args.config.now l)) lists lists refl (λ l blank. inl blank) c.requires.blank
+
+pub returns-in-Ok-clause-unnoted : goal.returns-in-Ok-clause-unnoted
+returns-in-Ok-clause-unnoted g c =
+    let lists = g.C.Chronicle.lists in
+    let loaded = c.in_ok-loaded.field-0.loaded in
+    let m = c.moment.result in
+    let is : lists c.note.new.chronicle ≡ option_map (with_receipt 0 m) (option_map (with_base loaded.base) (lists c.args.chronicle.now)) =
+    when_fine c.note.result (lists c.note.new.chronicle ≡ option_map (with_receipt 0 m) (option_map (with_base c.replace-base.result) (lists c.args.chronicle.now))) (sym c.is_err.ensures.value ∙ c.if-is_err.false) c.note.ensures.ok
+    ∙ ap (λ (b : List Placed). option_map (with_receipt 0 m) (option_map (with_base b) (lists c.args.chronicle.now))) c.replace-base.ensures.value in
+    let notes : IfSome (lists c.note.new.chronicle) (IsNoted loaded.base m) = noted loaded.base m (lists c.args.chronicle.now) (lists c.note.new.chronicle) c.requires.blank is in
+    noted_unblank loaded.base m (lists c.note.new.chronicle) notes
+
+pub returns-in-Ok-clause-rollbacks : goal.returns-in-Ok-clause-rollbacks
+returns-in-Ok-clause-rollbacks g c =
+    let lists = g.C.Chronicle.lists in
+    let loaded = c.in_ok-loaded.field-0.loaded in
+    let m = c.moment.result in
+    let is : lists c.note.new.chronicle ≡ option_map (with_receipt 0 m) (option_map (with_base loaded.base) (lists c.args.chronicle.now)) =
+    when_fine c.note.result (lists c.note.new.chronicle ≡ option_map (with_receipt 0 m) (option_map (with_base c.replace-base.result) (lists c.args.chronicle.now))) (sym c.is_err.ensures.value ∙ c.if-is_err.false) c.note.ensures.ok
+    ∙ ap (λ (b : List Placed). option_map (with_receipt 0 m) (option_map (with_base b) (lists c.args.chronicle.now))) c.replace-base.ensures.value in
+    let notes : IfSome (lists c.note.new.chronicle) (IsNoted loaded.base m) = noted loaded.base m (lists c.args.chronicle.now) (lists c.note.new.chronicle) c.requires.blank is in
+    noted_rollbacks loaded.base m (lists c.note.new.chronicle) notes c.args.config.now (length loaded.files) loaded.highest_file (g.D.Disk.past c.args.disk.now) c.in_ok-loaded.ensures.numbers
+
+pub returns-in-Err-clause-unnoted : goal.returns-in-Err-clause-unnoted
+returns-in-Err-clause-unnoted g c =
+    let lists = g.C.Chronicle.lists in
+    let loaded = c.in_ok-loaded.field-0.loaded in
+    let m = c.moment.result in
+    let is : lists c.note.new.chronicle ≡ option_map (with_receipt 0 m) (option_map (with_base loaded.base) (lists c.args.chronicle.now)) =
+    when_fine c.note.result (lists c.note.new.chronicle ≡ option_map (with_receipt 0 m) (option_map (with_base c.replace-base.result) (lists c.args.chronicle.now))) (sym c.is_err.ensures.value ∙ c.if-is_err.false) c.note.ensures.ok
+    ∙ ap (λ (b : List Placed). option_map (with_receipt 0 m) (option_map (with_base b) (lists c.args.chronicle.now))) c.replace-base.ensures.value in
+    let notes : IfSome (lists c.note.new.chronicle) (IsNoted loaded.base m) = noted loaded.base m (lists c.args.chronicle.now) (lists c.note.new.chronicle) c.requires.blank is in
+    noted_unblank loaded.base m (lists c.note.new.chronicle) notes
+
+pub returns-in-Err-clause-rollbacks : goal.returns-in-Err-clause-rollbacks
+returns-in-Err-clause-rollbacks g c =
+    let lists = g.C.Chronicle.lists in
+    let loaded = c.in_ok-loaded.field-0.loaded in
+    let m = c.moment.result in
+    let is : lists c.note.new.chronicle ≡ option_map (with_receipt 0 m) (option_map (with_base loaded.base) (lists c.args.chronicle.now)) =
+    when_fine c.note.result (lists c.note.new.chronicle ≡ option_map (with_receipt 0 m) (option_map (with_base c.replace-base.result) (lists c.args.chronicle.now))) (sym c.is_err.ensures.value ∙ c.if-is_err.false) c.note.ensures.ok
+    ∙ ap (λ (b : List Placed). option_map (with_receipt 0 m) (option_map (with_base b) (lists c.args.chronicle.now))) c.replace-base.ensures.value in
+    let notes : IfSome (lists c.note.new.chronicle) (IsNoted loaded.base m) = noted loaded.base m (lists c.args.chronicle.now) (lists c.note.new.chronicle) c.requires.blank is in
+    noted_rollbacks loaded.base m (lists c.note.new.chronicle) notes c.args.config.now (length loaded.files) loaded.highest_file (g.D.Disk.past c.args.disk.now) c.in_ok-loaded.ensures.numbers

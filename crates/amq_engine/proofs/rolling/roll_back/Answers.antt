@@ -1,12 +1,14 @@
 use Rattle.std.proofs.Common.{◌≡◌, ℕ, List, [], length, slice_get, refl, sym, ap, subst, ◌∙◌, arith}
+use Rattle.std.specs.Prelude.{take}
 use Rattle.std.proofs.lemmas.Option.{slice_get-get_or}
 use Rattle.amq_model.specs.declared.history.Step.{Step}
 use Rattle.amq_model.specs.Answers.{history_of}
 use Rattle.amq_tx.specs.Tables.{state_of}
 use Rattle.amq_engine.specs.Engine.{rolling, IsValid, end_of_tail}
-use Rattle.amq_engine.specs.Opening.{EndsIn}
+use Rattle.amq_engine.specs.Opening.{EndsIn, rollbacks_behind}
 use Rattle.amq_engine.proofs.Receipts.{if_some}
 use Rattle.amq_engine.proofs.GoingOn.{goes_still, goes_through}
+use Rattle.amq_engine.proofs.Rollbacks.{ArePlaced, placed_next, placed_front, steps_so}
 use Rattle.amq_engine.proofs.rolling.roll_back.Goals as goal
 
 pub roll_back_next-requires-clause-ended : goal.roll_back_next-requires-clause-ended
@@ -23,6 +25,7 @@ loop-done-init g c =
       begun = (c.requires.begun.0, c.requires.begun.1);
       base = refl;
       ends = if_some (λ l. l.steps ≡ []) (λ l. EndsIn t.file.id (history_of l.steps) t.file.id (end_of_tail t)) (g.C.Chronicle.lists c.args.chronicle.now) (λ l blank. subst (λ (steps : List Step). EndsIn t.file.id (history_of steps) t.file.id (end_of_tail t)) (sym blank) (refl, c.requires.begun.2)) c.requires.blank;
+      placed = if_some (λ l. l.steps ≡ []) (λ l. ArePlaced c.args.config.now t.file.id c.args.txs.now 0 l.steps) (g.C.Chronicle.lists c.args.chronicle.now) (λ l blank. subst (λ (steps : List Step). ArePlaced c.args.config.now t.file.id c.args.txs.now 0 steps) (sym blank) (refl, refl)) c.requires.blank;
       faults = (omega arith, refl);
       later = omega arith;
       later_file = omega arith;
@@ -51,6 +54,10 @@ loop-done-preserved g c =
       later_file = omega (arith, c.loop-done.invariant.later_file, c.in_ok-roll_back_next.ensures.later_file);
       base = c.roll_back_next.ensures.base ∙ c.loop-done.invariant.base;
       ends = if_some _ (λ l. EndsIn c.args.tail.now.file.id (history_of l.steps) u.file.id (end_of_tail u)) (g.C.Chronicle.lists c.roll_back_next.new.chronicle) (λ l ends. ends c.args.tail.now.file.id) c.in_ok-roll_back_next.ensures.ends;
+      placed =
+          let next = c.in_ok-roll_back_next.ensures.stepped in
+          placed_next c.args.config.now c.args.tail.now.file.id c.args.txs.now c.loop-done.done _ c.loop-done.tail.file.id (end_of_tail c.loop-done.tail) (g.C.Chronicle.lists c.loop-done.chronicle) (g.C.Chronicle.lists c.roll_back_next.new.chronicle) next.0
+              (slice_get-get_or c.args.txs.now c.loop-done.done _ (grind (arith, c.loop-done-test.true))) c.loop-done.invariant.placed c.loop-done.invariant.ends next.1 next.2;
       faults = (omega (arith, c.loop-done.invariant.faults.0, c.roll_back_next.ensures.later_faults), c.in_ok-roll_back_next.ensures.faults ∙ c.loop-done.invariant.faults.1);
       later = omega (arith, c.loop-done.invariant.later, c.roll_back_next.ensures.later);
       tidy = λ tidy. c.in_ok-roll_back_next.ensures.tidy (c.loop-done.invariant.tidy tidy);
@@ -66,3 +73,24 @@ returns-clause-ok g c base same v =
 
 pub returns-in_err-roll_back_next-clause-first : goal.returns-in_err-roll_back_next-clause-first
 returns-in_err-roll_back_next-clause-first g c r starts = c.roll_back_next.ensures.first r (c.loop-done.invariant.first r starts)
+
+pub returns-clause-placed : goal.returns-clause-placed
+returns-clause-placed g c =
+    let first = c.args.tail.now.file.id in
+    let lists = g.C.Chronicle.lists c.loop-done.chronicle in
+    if_some (λ l. ArePlaced c.args.config.now first c.args.txs.now c.loop-done.done l.steps) (λ l. history_of l.steps ≡ take (length l.steps) (rollbacks_behind c.args.config.now first 16 c.args.txs.now)) lists (λ l are. placed_front c.args.config.now first c.args.txs.now c.loop-done.done l.steps are) c.loop-done.invariant.placed
+
+pub returns-clause-all : goal.returns-clause-all
+returns-clause-all g c =
+    let first = c.args.tail.now.file.id in
+    let lists = g.C.Chronicle.lists c.loop-done.chronicle in
+    let all : c.loop-done.done ≡ length c.args.txs.now = grind (arith, c.loop-done-test.false, c.loop-done.auto.done-end) in
+    if_some (λ l. ArePlaced c.args.config.now first c.args.txs.now c.loop-done.done l.steps) (λ l. length l.steps ≡ length c.args.txs.now) lists (λ l are. are.0 ∙ all) c.loop-done.invariant.placed
+
+pub returns-in_err-roll_back_next-clause-placed : goal.returns-in_err-roll_back_next-clause-placed
+returns-in_err-roll_back_next-clause-placed g c =
+    let first = c.args.tail.now.file.id in
+    let P : List Step → Type 0 = λ ss. history_of ss ≡ take (length ss) (rollbacks_behind c.args.config.now first 16 c.args.txs.now) in
+    let before = g.C.Chronicle.lists c.loop-done.chronicle in
+    steps_so P before (g.C.Chronicle.lists c.roll_back_next.new.chronicle) c.in_err-roll_back_next.ensures.unstepped
+    (if_some (λ l. ArePlaced c.args.config.now first c.args.txs.now c.loop-done.done l.steps) (λ l. P l.steps) before (λ l are. placed_front c.args.config.now first c.args.txs.now c.loop-done.done l.steps are) c.loop-done.invariant.placed)

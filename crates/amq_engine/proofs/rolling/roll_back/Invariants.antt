@@ -9,6 +9,7 @@ use Rattle.amq_engine.specs.declared.chronicle.Receipted.{Receipted}
 use Rattle.amq_engine.specs.Receipts.{GoesOn, StartsWith}
 use Rattle.amq_engine.specs.Engine.{rolling, IsValid, end_of_tail}
 use Rattle.amq_engine.specs.Opening.{EndsIn}
+use Rattle.amq_engine.proofs.Rollbacks.{ArePlaced}
 use Rattle.amq_engine.proofs.rolling.roll_back.Given as goal
 
 abbrev pub invariant-loop-done : goal.invariant-loop-done
@@ -20,6 +21,7 @@ invariant-loop-done g l = record {
   later_file : l.fn.tail.file.id ≤ l.tail.file.id;
   base : option_map (λ k. k.base) (g.C.Chronicle.lists l.chronicle) ≡ option_map (λ k. k.base) (g.C.Chronicle.lists l.fn.chronicle);
   ends : IfSome (g.C.Chronicle.lists l.chronicle) (λ k. EndsIn l.fn.tail.file.id (history_of k.steps) l.tail.file.id (end_of_tail l.tail));
+  placed : IfSome (g.C.Chronicle.lists l.chronicle) (λ k. ArePlaced l.fn.config l.fn.tail.file.id l.fn.txs l.done k.steps);
   faults : ((g.D.Disk.faults l.fn.disk).0 ≤ (g.D.Disk.faults l.disk).0) × ((g.D.Disk.faults l.disk).1 ≡ (g.D.Disk.faults l.fn.disk).1);
   later : g.D.Disk.moment l.fn.disk ≤ g.D.Disk.moment l.disk;
   tidy : Told (g.D.Disk.past l.fn.disk) IsTidy → Told (g.D.Disk.past l.disk) IsTidy;

@@ -1,4 +1,4 @@
-use Rattle.std.proofs.Common.{◌≡◌, ◌+◌, ◌≤◌, ℕ, Bool, true, [], length, List, Option, None, Some, refl, sym, ap, subst, ◌∙◌, arith}
+use Rattle.std.proofs.Common.{◌≡◌, ◌+◌, ◌≤◌, ℕ, Bool, true, [], ◌∷◌, ◌++◌, length, List, Option, None, Some, refl, sym, ap, subst, ◌∙◌, arith}
 use Rattle.std.specs.Prelude.{IfSome, is_some, option_map}
 use Rattle.amq_model.specs.declared.record.Placed.{Placed}
 use Rattle.amq_model.specs.declared.record.Record.TheVariants as rec
@@ -6,19 +6,21 @@ use Rattle.amq_model.specs.declared.command.Command.TheVariants.{Rollback}
 use Rattle.amq_model.specs.declared.command.Reply.{Reply}
 use Rattle.amq_model.specs.declared.command.Reply.TheVariants.{Appended}
 use Rattle.amq_model.specs.declared.history.Answer.TheVariants.{Done}
+use Rattle.amq_model.specs.declared.history.Step.{Step}
 use Rattle.amq_tx.specs.State.{TxState}
 use Rattle.amq_tx.specs.Tables.{state_of}
 use Rattle.amq_tx.specs.Refusing.{refusal_in}
 use Rattle.amq_engine.specs.declared.tail.Tail.{Tail}
 use Rattle.amq_pool.specs.Pools.{ids_of}
-use Rattle.amq_engine.specs.Lists.{Lists, with_step}
+use Rattle.amq_engine.specs.Lists.{Lists, with_step, steps_in}
 use Rattle.amq_engine.specs.Engine.{rolling, IsValid, end_of_tail, passes, spent, refused, flushes, placed_behind}
-use Rattle.amq_engine.specs.Opening.{NeedsFile}
+use Rattle.amq_engine.specs.Opening.{NeedsFile, rollback_behind}
 use Rattle.amq_engine.proofs.Sound.{sound_there, sound_within}
 use Rattle.amq_engine.proofs.Commanding.{when_ok, few_appends, count_fits, put_fits, valid_room}
 use Rattle.amq_engine.proofs.RollingBack.{accepts_next, refused_spent, roll_spent, rolled_ends, valid_rolled}
 use Rattle.amq_engine.proofs.GoingOn.{goes_still}
 use Rattle.amq_engine.proofs.Beginning.{starts_same, starts_failed, starts_step, starts_receipted}
+use Rattle.amq_engine.proofs.Rollbacks.{placed_is, same_steps, steps_failed, steps_more}
 use Rattle.amq_engine.proofs.rolling.roll_back_next.Goals as goal
 
 pub returns-then-is_err-clause-failed : goal.returns-then-is_err-clause-failed
@@ -163,3 +165,32 @@ returns-clause-first g c r starts =
     starts_step r _ (lists c.ready.new.chronicle) (lists c.step.new.self) c.step.ensures.noted
     (starts_receipted r _ c.args.tail.now.appended _ (lists c.make_room.new.chronicle) (lists c.ready.new.chronicle) c.in_default.ensures.receipt
     (starts_same r (lists c.args.chronicle.now) (lists c.make_room.new.chronicle) c.make_room.ensures.lists starts))
+
+pub returns-then-is_err-clause-unstepped : goal.returns-then-is_err-clause-unstepped
+returns-then-is_err-clause-unstepped g c = ap steps_in c.make_room.ensures.lists
+
+pub returns-then-is_some-clause-unstepped : goal.returns-then-is_some-clause-unstepped
+returns-then-is_some-clause-unstepped g c = ap steps_in c.make_room.ensures.lists
+
+pub returns-in-Err-clause-unstepped : goal.returns-in-Err-clause-unstepped
+returns-in-Err-clause-unstepped g c =
+    let lists = g.C.Chronicle.lists in
+    steps_failed (c.passes-moves.result ≡ true) (c.args.pool.now.prepared ≡ []) (g.D.Disk.moment c.args.disk.now) c.args.tail.now c.ready.new.tail (lists c.make_room.new.chronicle) (lists c.ready.new.chronicle) c.in-Err.ensures.err ∙ ap steps_in c.make_room.ensures.lists
+
+-- the record stands behind the others
+pub returns-clause-stepped : goal.returns-clause-stepped
+returns-clause-stepped g c =
+    let e = c.args in
+    let lists = g.C.Chronicle.lists in
+    let t = c.ready.new.tail in
+    let x : Step = record { seat = 0; number = e.done + 1; command = Rollback e.tx; answer = Done c.put_record-reply.result.0; placed = c.put_record-reply.result.1 } in
+    let ends : e.tail.now.end + length c.bytes.result.now ≡ end_of_tail e.tail.now = ap (λ (l : List ℕ). e.tail.now.end + length l) c.bytes.ensures in
+    let moves : c.passes-moves.result ≡ passes e.config.now.file_size (end_of_tail e.tail.now) (Some 18) = c.passes-moves.ensures ∙ ap (λ (n : ℕ). passes e.config.now.file_size n (Some 18)) ends in
+    let flushed = flushes e.tail.now.buffer.capacity (length e.tail.now.buffer.bytes) (Rollback e.tx) in
+    let placed : x.placed ≡ Some (rollback_behind e.config.now e.tail.now.file.id (end_of_tail e.tail.now) e.tx) =
+    c.put_record-reply.ensures.placed ∙ ap (λ (u : Tail). Some (placed_behind u (rec.Rollback e.tx))) c.in_default.ensures.ok ∙ ap Some (placed_is e.config.now c.passes-moves.result flushed e.pool.now e.tail.now e.tx (sym moves) c.requires.begun.0 c.requires.begun.1) in
+    let same : steps_in (lists c.ready.new.chronicle) ≡ steps_in (lists e.chronicle.now) = same_steps _ e.tail.now.appended _ (lists c.make_room.new.chronicle) (lists c.ready.new.chronicle) c.in_default.ensures.receipt ∙ ap steps_in c.make_room.ensures.lists in (
+      x,
+      placed,
+      steps_more x (lists c.ready.new.chronicle) (lists c.step.new.self) c.step.ensures.noted ∙ ap (option_map (λ (ss : List Step). ss ++ x ∷ [])) same,
+    )

@@ -1,10 +1,14 @@
-use Rattle.std.proofs.Common.{◌≡◌, ℕ, ◌+◌, ◌-◌, ◌^◌, length, sym, ap, ◌∙◌}
-use Rattle.std.specs.Prelude.{min}
+use Rattle.std.proofs.Common.{◌≡◌, ℕ, List, ◌+◌, ◌-◌, ◌^◌, length, sym, ap, ◌∙◌}
+use Rattle.std.specs.Prelude.{min, take}
+use Rattle.amq_model.specs.declared.history.Step.{Step}
+use Rattle.amq_model.specs.Answers.{history_of}
 use Rattle.amq_tx.specs.Tables.{state_of}
 use Rattle.amq_engine.specs.declared.tail.Tail.{Tail}
 use Rattle.amq_engine.specs.Engine.{rolling, with_files}
 use Rattle.amq_engine.proofs.Sound.{sound_there, sound_within}
+use Rattle.amq_engine.specs.Opening.{rollbacks_behind}
 use Rattle.amq_engine.proofs.Started.{filled_by}
+use Rattle.amq_engine.proofs.Rollbacks.{same_steps, steps_so}
 use Rattle.amq_engine.proofs.GoingOn.{goes_through}
 use Rattle.amq_engine.proofs.Beginning.{starts_receipted}
 use Rattle.amq_engine.proofs.starting.complete.Goals as goal
@@ -73,3 +77,27 @@ returns-in-Ok-clause-first g c r starts =
 
 pub returns-in-Ok-clause-tidy : goal.returns-in-Ok-clause-tidy
 returns-in-Ok-clause-tidy g c tidy = c.in-Ok.ensures.tidy (c.in_default.ensures.tidy (c.in_ok-roll_back.ensures.tidy tidy))
+
+pub returns-in-Err-clause-placed : goal.returns-in-Err-clause-placed
+returns-in-Err-clause-placed g c =
+    let lists = g.C.Chronicle.lists in
+    let P : List Step → Type 0 = λ ss. history_of ss ≡ take (length ss) (rollbacks_behind c.args.config.now c.args.tail.now.file.id 16 c.args.txs.now) in
+    steps_so P (lists c.roll_back.new.chronicle) (lists c.write_out.new.chronicle) (same_steps _ c.roll_back.new.tail.appended _ (lists c.roll_back.new.chronicle) (lists c.write_out.new.chronicle) c.write_out.ensures.receipt) c.roll_back.ensures.placed
+
+pub returns-in-Err-fill_pool-clause-placed : goal.returns-in-Err-fill_pool-clause-placed
+returns-in-Err-fill_pool-clause-placed g c =
+    let lists = g.C.Chronicle.lists in
+    let P : List Step → Type 0 = λ ss. history_of ss ≡ take (length ss) (rollbacks_behind c.args.config.now c.args.tail.now.file.id 16 c.args.txs.now) in
+    steps_so P (lists c.roll_back.new.chronicle) (lists c.write_out.new.chronicle) (same_steps _ c.roll_back.new.tail.appended _ (lists c.roll_back.new.chronicle) (lists c.write_out.new.chronicle) c.write_out.ensures.receipt) c.roll_back.ensures.placed
+
+pub returns-in-Ok-clause-placed : goal.returns-in-Ok-clause-placed
+returns-in-Ok-clause-placed g c =
+    let lists = g.C.Chronicle.lists in
+    let P : List Step → Type 0 = λ ss. history_of ss ≡ take (length ss) (rollbacks_behind c.args.config.now c.args.tail.now.file.id 16 c.args.txs.now) in
+    steps_so P (lists c.roll_back.new.chronicle) (lists c.write_out.new.chronicle) (same_steps _ c.roll_back.new.tail.appended _ (lists c.roll_back.new.chronicle) (lists c.write_out.new.chronicle) c.write_out.ensures.receipt) c.roll_back.ensures.placed
+
+pub returns-in-Ok-clause-all : goal.returns-in-Ok-clause-all
+returns-in-Ok-clause-all g c =
+    let lists = g.C.Chronicle.lists in
+    let P : List Step → Type 0 = λ ss. length ss ≡ length c.args.txs.now in
+    steps_so P (lists c.roll_back.new.chronicle) (lists c.write_out.new.chronicle) (same_steps _ c.roll_back.new.tail.appended _ (lists c.roll_back.new.chronicle) (lists c.write_out.new.chronicle) c.write_out.ensures.receipt) c.in_ok-roll_back.ensures.all

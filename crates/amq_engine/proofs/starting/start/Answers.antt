@@ -1,17 +1,21 @@
-use Rattle.std.proofs.Common.{◌≡◌, ℕ, ◌+◌, ◌-◌, ◌^◌, List, [], length, refl, sym, ap, ◌∙◌}
-use Rattle.std.specs.Prelude.{IfSome, min}
+use Rattle.std.proofs.Common.{◌≡◌, ◌⊎◌, inl, ℕ, ◌+◌, ◌-◌, ◌^◌, List, [], length, refl, sym, ap, subst, ◌∙◌, rules}
+use Rattle.std.specs.Prelude.{Err, IfErr, IfSome, min, take}
 use Rattle.amq_model.specs.Answers.{history_of}
 use Rattle.amq_model.specs.Effect.{result_of}
 use Rattle.amq_model.specs.Legal.{rolled_back, AreLegalOfRefused}
 use Rattle.amq_tx.specs.Tables.{state_of}
-use Rattle.amq_engine.specs.Engine.{end_of_tail}
+use Rattle.amq_model.specs.Leaves.{Told}
+use Rattle.amq_engine.specs.Engine.{end_of_tail, IsBlank}
+use Rattle.amq_engine.specs.Opening.{HasBase, AreFirstRollbacks, HasOpenCause, rollbacks_behind}
 use Rattle.amq_engine.specs.Receipts.{IsCrashSafe}
 use Rattle.amq_engine.proofs.Receipts.{if_some}
 use Rattle.amq_engine.proofs.Found.{syncs_none}
 use Rattle.amq_engine.proofs.Stages.{valid_opened}
 use Rattle.amq_engine.proofs.Beginning.{begins_blank, begins_through}
 use Rattle.amq_engine.proofs.RollingBack.{rolled_safe}
-use Rattle.amq_engine.proofs.Started.{told_filled, valid_base, valid_rolled_back, valid_appended, valid_noted, on_err}
+use Rattle.amq_engine.proofs.Begun.{still_blank}
+use Rattle.amq_engine.proofs.Rollbacks.{both_so, placed_all, told_rollbacks}
+use Rattle.amq_engine.proofs.Started.{told_filled, valid_base, valid_rolled_back, valid_appended, valid_noted, on_err, same_base, roll_cause, unblank}
 use Rattle.amq_engine.proofs.starting.start.Goals as goal
 
 -- nothing was asked
@@ -101,12 +105,64 @@ returns-clause-rolled g c =
 
 pub returns-clause-files : goal.returns-clause-files
 returns-clause-files g c =
+    let config = c.args.config.now in
     let begun = c.in_ok-table.ensures.valid c.in-Ok.buffer c.in-Ok.ensures in
-    let same : c.as_slice.result.now ≡ rolled_back begun.0 = c.as_slice.ensures.value ∙ begun.2 in
+    let txs = c.as_slice.result.now in
+    let same : txs ≡ rolled_back begun.0 = c.as_slice.ensures.value ∙ begun.2 in
     let valid = c.in_ok-complete.ensures.ok begun.0 same begun.1 in
     let first = c.in_ok-table.field-0.file.id in
     let files = c.in_ok-table.field-0.files in
     let tail = c.complete.new.tail in
     let pool = c.complete.new.pool in
-    told_filled c.args.config.now files first tail.file.id (end_of_tail tail) pool.highest (min (c.args.config.now.min_files - (files + (tail.file.id + 1 - first))) (2 ^ 31 - 1 - tail.file.id)) pool.prepared (g.C.Chronicle.lists c.complete.new.chronicle) (g.D.Disk.past c.args.disk.now)
-    c.in_ok-complete.ensures.later_file valid.sound.parts.numbers refl c.in_ok-complete.ensures.filled.0 c.in_ok-complete.ensures.filled.1 c.in_ok-complete.ensures.ends c.in_ok-table.ensures.numbers
+    let lists = g.C.Chronicle.lists c.complete.new.chronicle in
+    let based = valid_base (g.D.Disk.past c.complete.new.disk) (g.D.Disk.moment c.complete.new.disk) (g.C.Chronicle.receipt_room c.complete.new.chronicle) config (state_of c.complete.new.table) pool tail begun.0 (length txs) lists valid in
+    let placed = both_so (λ ss. history_of ss ≡ take (length ss) (rollbacks_behind config first 16 txs)) (λ ss. length ss ≡ length txs) (λ ss. history_of ss ≡ rollbacks_behind config first 16 txs) lists (λ ss front all. placed_all config first txs ss front all) c.complete.ensures.placed c.in_ok-complete.ensures.all in
+    told_filled config files first tail.file.id (end_of_tail tail) pool.highest (min (config.min_files - (files + (tail.file.id + 1 - first))) (2 ^ 31 - 1 - tail.file.id)) pool.prepared txs begun.0 lists (g.D.Disk.past c.args.disk.now)
+    c.in_ok-complete.ensures.later_file valid.sound.parts.numbers refl c.in_ok-complete.ensures.filled.0 c.in_ok-complete.ensures.filled.1 c.in_ok-complete.ensures.ends c.in_ok-table.ensures.numbers same based placed
+
+pub returns-in_err-complete-clause-failed_rollbacks : goal.returns-in_err-complete-clause-failed_rollbacks
+returns-in_err-complete-clause-failed_rollbacks g c =
+    let config = c.args.config.now in
+    let begun = c.in_ok-table.ensures.valid c.in-Ok.buffer c.in-Ok.ensures in
+    let txs = c.as_slice.result.now in
+    let same : txs ≡ rolled_back begun.0 = c.as_slice.ensures.value ∙ begun.2 in
+    let failed = c.in_err-complete.ensures.failed begun.0 same begun.1 in
+    let lists = g.C.Chronicle.lists c.complete.new.chronicle in
+    let based = valid_base (g.D.Disk.past c.complete.new.disk) (g.D.Disk.moment c.complete.new.disk) (g.C.Chronicle.receipt_room c.complete.new.chronicle) config (state_of c.complete.new.table) c.complete.new.pool c.complete.new.tail begun.0 failed.0 lists failed.1 in
+    on_err _ (IfSome lists (λ l. IsBlank l ⊎ Told (g.D.Disk.past c.args.disk.now) (AreFirstRollbacks config l)))
+    (told_rollbacks config c.in_ok-table.field-0.files c.in_ok-table.field-0.file.id begun.0 txs lists (g.D.Disk.past c.args.disk.now) same based c.complete.ensures.placed c.in_ok-table.ensures.numbers)
+
+pub returns-in_err-complete-clause-unnoted : goal.returns-in_err-complete-clause-unnoted
+returns-in_err-complete-clause-unnoted g c =
+    let begun = c.in_ok-table.ensures.valid c.in-Ok.buffer c.in-Ok.ensures in
+    let failed = c.in_err-complete.ensures.failed begun.0 (c.as_slice.ensures.value ∙ begun.2) begun.1 in
+    let lists = g.C.Chronicle.lists c.complete.new.chronicle in
+    unblank lists (valid_noted (g.D.Disk.past c.complete.new.disk) (g.D.Disk.moment c.complete.new.disk) (g.C.Chronicle.receipt_room c.complete.new.chronicle) c.args.config.now (state_of c.complete.new.table) c.complete.new.pool c.complete.new.tail begun.0 failed.0 ⊥ lists failed.1)
+
+pub returns-clause-unnoted : goal.returns-clause-unnoted
+returns-clause-unnoted g c =
+    let begun = c.in_ok-table.ensures.valid c.in-Ok.buffer c.in-Ok.ensures in
+    let same : c.as_slice.result.now ≡ rolled_back begun.0 = c.as_slice.ensures.value ∙ begun.2 in
+    let lists = g.C.Chronicle.lists c.complete.new.chronicle in
+    unblank lists (valid_noted (g.D.Disk.past c.complete.new.disk) (g.D.Disk.moment c.complete.new.disk) (g.C.Chronicle.receipt_room c.complete.new.chronicle) c.args.config.now (state_of c.complete.new.table) c.complete.new.pool c.complete.new.tail begun.0 (length c.as_slice.result.now) ⊥ lists (c.in_ok-complete.ensures.ok begun.0 same begun.1))
+
+pub returns-in_default-clause-unnoted : goal.returns-in_default-clause-unnoted
+returns-in_default-clause-unnoted g c = let lists = g.C.Chronicle.lists c.args.chronicle.now in still_blank (λ l. l.receipts ≡ [] → IsBlank l) lists lists refl (λ l blank none. blank) c.requires.blank
+
+pub returns-in_default-clause-failed_rollbacks : goal.returns-in_default-clause-failed_rollbacks
+returns-in_default-clause-failed_rollbacks g c =
+    let lists = g.C.Chronicle.lists c.args.chronicle.now in
+    still_blank (λ l. IsBlank l ⊎ Told (g.D.Disk.past c.args.disk.now) (AreFirstRollbacks c.args.config.now l)) lists lists refl (λ l blank. inl blank) c.requires.blank
+
+pub returns-in_err-complete-clause-cause : goal.returns-in_err-complete-clause-cause
+returns-in_err-complete-clause-cause g c =
+    let config = c.args.config.now in
+    let past = g.D.Disk.past in
+    let faults = g.D.Disk.faults in
+    let lists = g.C.Chronicle.lists in
+    let based = same_base (λ b. Told (past c.args.disk.now) (HasBase config.user_version b)) (lists c.begin.new.chronicle) (lists c.complete.new.chronicle) c.complete.ensures.base
+    (if_some (λ l. (l.steps ≡ []) × Told (past c.args.disk.now) (HasBase config.user_version l.base)) (λ l. Told (past c.args.disk.now) (HasBase config.user_version l.base)) (lists c.begin.new.chronicle) (λ l both. both.1) c.in_ok-table.ensures.lists) in
+    let fault = c.in_err-complete.field-0.0 in
+    let is : c.from_residual-in_err-complete.result ≡ Err fault = search rules in
+    subst (λ r. IfErr r (λ fault. HasOpenCause config fault (lists c.complete.new.chronicle) (past c.args.disk.now) (past c.complete.new.disk) (faults c.args.disk.now) (faults c.complete.new.disk))) (sym is)
+    (roll_cause fault config (lists c.complete.new.chronicle) (past c.args.disk.now) (past c.complete.new.disk) (faults c.args.disk.now) (faults c.begin.new.disk) (faults c.complete.new.disk) c.begin.ensures.later c.in_ok-table.ensures.faults based c.in_err-complete.ensures.cause)
