@@ -28,7 +28,7 @@ use Rattle.amq_io.specs.declared.faults.DiskFault.TheVariants as f
 use Rattle.amq_scan.specs.Segments.{Segment, records_of, AreAscending, IsNamed, IsClosedDirectory, IsDirectory}
 use Rattle.amq_scan.proofs.Parts.{Has, has_contains, contains_has}
 use Rattle.amq_pool.specs.declared.pool.PoolFile.{PoolFile}
-use Rattle.amq_pool.specs.Pools.{PoolOf, IsPool, numbered_file, file_for, Making, Made}
+use Rattle.amq_pool.specs.Pools.{PoolOf, IsPool, ids_of, numbered_file, file_for, Making, Made}
 use Rattle.amq_tx.specs.State.{TxState}
 use Rattle.amq_tx.specs.Follows.{Follows}
 use Rattle.amq_loader.specs.Bases.{AreNamed, IsBaseFile, IsBase, Clears, Cleared}
@@ -36,7 +36,7 @@ use Rattle.amq_loader.specs.Loads.{IsTidy}
 use Rattle.amq_loader.proofs.Bases.{closed_clears, closed_is_directory}
 use Rattle.amq_engine.specs.declared.chronicle.Receipted.{Receipted}
 use Rattle.amq_engine.specs.Lists.{Lists, with_base, with_receipt}
-use Rattle.amq_engine.specs.Directory.{Stands, StandsNow, AreListed, HasName, named_file, all_files}
+use Rattle.amq_engine.specs.Directory.{Stands, StandsNow, AreListed, HasName, named_file, all_files, files_from}
 use Rattle.amq_engine.specs.Engine.{rolling, Holds, IsValid, AreKept, IsTold, IsBlank, open_fault}
 use Rattle.amq_engine.specs.Opening.{HasNumbers, HasOpenCause, AreLeft, AreFirstRollbacks, rollbacks_behind}
 use Rattle.amq_engine.specs.Receipts.{AreInOrder, IsLastCount, IsCrashSafe, Anything, GoesOn, BeginsBySyncs}
@@ -250,6 +250,7 @@ begun_valid config ranges highest low base a d b m later lists room table buffer
           pool_is = subst IsPool bare is_pool;
           listed = subst (λ (l : List Segment). AreListed (highest + 1) 0 (all_files l new [])) (sym (append-nil b.files)) (base_listed config ranges highest low base b.files b.records b.ascending b.named b.each);
           numbers = omega (arith, low);
+          behind = let none : 0 ≡ highest + 1 - (highest + 1) = omega arith in ap (λ (k : ℕ). ids_of (files_from (highest + 1 + 1) k)) none;
           few = omega arith;
           capacity = refl;
           timeout = refl;
@@ -267,6 +268,7 @@ begun_valid config ranges highest low base a d b m later lists room table buffer
       };
       ranges = ranges;
       opening = (refl, refl, tt, refl);
+      spent = tt;
       order = if_some (IsNoted base m) (λ l. AreInOrder later l.receipts) lists (λ l n. noted_order d config.user_version base m holds later on l n) is;
       last = if_some (IsNoted base m) (λ l. IsLastCount 0 l.receipts) lists (λ l n. noted_last d config.user_version base m holds l n) is;
     })))

@@ -23,7 +23,7 @@ use Rattle.amq_model.specs.declared.refusal.Refusal.TheVariants.{FileIdsSpent, T
 use Rattle.amq_model.specs.RecordAt.{IsRecord, len_of, spelling}
 use Rattle.amq_model.specs.Calls.{Past}
 use Rattle.amq_model.specs.Answers.{tx_of, id_of, is_add, works_in_tx, record_of, history_of, too_large, limit, first_some}
-use Rattle.amq_model.specs.Legal.{StandsNext, number_for, needs_file, IsAnswered, IsLegalStep, AreLegalFrom, AreLegal, end_of}
+use Rattle.amq_model.specs.Legal.{StandsNext, number_for, needs_file, rolled_back, IsAnswered, IsLegalStep, AreLegalFrom, AreLegal, end_of}
 use Rattle.amq_model.specs.Effect.{changes, ends, open_changes}
 use Rattle.amq_model.proofs.Keeping.{reads_weaker}
 use Rattle.amq_record.proofs.Records.{length_spelling}
@@ -42,7 +42,7 @@ use Rattle.amq_engine.specs.Lists.{Lists, with_step}
 use Rattle.amq_engine.specs.Directory.{placed_in, StandsNow}
 use Rattle.amq_engine.specs.Receipts.{AreInOrder, IsLastCount}
 use Rattle.amq_engine.specs.declared.tail.Tail.{Tail}
-use Rattle.amq_engine.specs.Engine.{IsNewItem, AreKept, IsTold, Parts, IsSound, Stage, opened, HasOpened, IsValid, IsChronicle, IsCommandRefusal, records, spent, passes, refused, bare_reply, reply_of, end_of_tail, with_put, placed_behind, record_len, readied}
+use Rattle.amq_engine.specs.Engine.{IsNewItem, AreKept, IsTold, Parts, IsSound, Stage, opened, HasOpened, AreAppended, IsSpentAtLast, AreSpentAtLast, IsValid, IsChronicle, IsCommandRefusal, records, spent, passes, refused, bare_reply, reply_of, end_of_tail, with_put, placed_behind, record_len, readied}
 use Rattle.amq_engine.proofs.Texts.{text_grows, end_whole}
 use Rattle.amq_engine.proofs.Receipts.{if_some, if_mapped, kept_grows}
 use Rattle.amq_engine.proofs.History.{behind, records-snoc, length-placed, end_records, few_records, stands_next, answered_none, answered_some, accepted_is, reply_behind, reply_bare, reply_appended, no_record, history-snoc, legal_from}
@@ -100,7 +100,7 @@ large_of config None = None
 large_of config (Some rec) = cond (ltb (limit config) (len_of rec)) (Some (TooLarge (len_of rec) (limit config))) None
 
 -- a record that isn't too large has the limit's length at most
-within_limit : (config : Config) (command : Command) (len : ℕ) → too_large config command ≡ None → record_len command ≡ Some len → len ≤ limit config
+pub within_limit : (config : Config) (command : Command) (len : ℕ) → too_large config command ≡ None → record_len command ≡ Some len → len ≤ limit config
 within_limit config command len none is = by (record_of command 0) refl is where
   by : (o : Option Record) → record_of command 0 ≡ o → option_map len_of o ≡ Some len → len ≤ limit config
   by None here is = absurd cc
@@ -228,6 +228,11 @@ needs_one config table pool t p command ranges small moves = by (record_of comma
       let at : end_of (history_of p.steps) ≡ end_of_tail t = ap end_of p.placed ∙ end_records p.closed t.file p.items some ∙ sym (tail_end config table pool t p) in
       rw (here, needs_file) (ap (λ (n : ℕ). ltb config.file_size (n + len_of rec)) at ∙ passed)
 
+-- one step more
+spent_more : (before steps : List Step) (x : Step) → AreSpentAtLast before steps → IsSpentAtLast (before ++ steps) x → AreSpentAtLast before (steps ++ x ∷ [])
+spent_more before [] x are one = (subst (λ (ss : List Step). IsSpentAtLast ss x) (append-nil before) one, tt)
+spent_more before (s ∷ ss) x are one = (are.0, spent_more (before ++ s ∷ []) ss x are.1 (subst (λ (qs : List Step). IsSpentAtLast qs x) (sym (append_assoc before (s ∷ []) ss)) one))
+
 module _ (past : Option Past) (config : Config) (table : TxState) (pool : PoolOf) (t : Tail) (command : Command) (seat number : ℕ) where
   module _ (lists : Option Lists) (room : ℕ) (s : IsSound past lists room config table pool t) (known : refusal_in table command ≡ refusal_of s.parts.base s.parts.steps command) where
     abbrev history : List Placed
@@ -258,6 +263,7 @@ module _ (past : Option Past) (config : Config) (table : TxState) (pool : PoolOf
       pool_is = s.parts.pool_is;
       listed = s.parts.listed;
       numbers = s.parts.numbers;
+      behind = s.parts.behind;
       few = s.parts.few;
       capacity = s.parts.capacity;
       timeout = s.parts.timeout;
@@ -358,6 +364,7 @@ module _ (past : Option Past) (config : Config) (table : TxState) (pool : PoolOf
               pool_is = p.pool_is;
               listed = p.listed;
               numbers = p.numbers;
+              behind = p.behind;
               few = p.few;
               capacity = p.capacity;
               timeout = p.timeout;
@@ -391,13 +398,14 @@ module _ (past : Option Past) (config : Config) (table : TxState) (pool : PoolOf
   -- the command was refused, and the step noted
   pub valid_refused : (stage stage' : Stage) (moment : ℕ) (lists lists' : Option Lists) (room room' : ℕ) (r : Refusal) (v : IsValid stage past moment lists room config table pool t) → refusal_in table command ≡ refusal_of v.sound.parts.base v.sound.parts.steps command
       → refused config (refusal_in table command) (spent (passes config.file_size (end_of_tail t) (record_len command)) pool.highest (ids_of pool.prepared)) command ≡ Some r
-      → HasOpened stage' v.sound.parts.base (v.sound.parts.steps ++ record { seat = seat; number = number; command = command; answer = Refused r; placed = None } ∷ [])
+      → HasOpened stage' v.sound.parts.base (v.sound.parts.steps ++ record { seat = seat; number = number; command = command; answer = Refused r; placed = None } ∷ []) → IsSpentAtLast v.sound.parts.steps (record { seat = seat; number = number; command = command; answer = Refused r; placed = None })
       → lists' ≡ option_map (with_step (record { seat = seat; number = number; command = command; answer = Refused r; placed = None })) lists → room ≤ room' → IsValid stage' past moment lists' room' config table pool t
   unfolding sound_refused with_bare parts_bare
-  valid_refused stage stage' moment lists lists' room room' r v known is opening noted more = record {
+  valid_refused stage stage' moment lists lists' room room' r v known is opening at_last noted more = record {
     sound = sound_refused lists room v.sound known v.ranges lists' room' r is noted more;
     ranges = v.ranges;
     opening = opening;
+    spent = spent_more [] v.sound.parts.steps (record { seat = seat; number = number; command = command; answer = Refused r; placed = None }) v.spent at_last;
     order = told_stepped (λ l. AreInOrder moment l.receipts) _ (λ l order. order) lists lists' noted v.order;
     last = told_stepped (λ l. IsLastCount t.durable l.receipts) _ (λ l last. last) lists lists' noted v.last;
   }
@@ -414,6 +422,7 @@ module _ (past : Option Past) (config : Config) (table : TxState) (pool : PoolOf
     sound = sound_bare lists room v.sound known by_numbers none lists' room' table' given (no_record command _ (sym is)) told (λ e. all_durable config table pool t v.sound.parts (empty refl e)) goes noted more;
     ranges = v.ranges;
     opening = opening;
+    spent = spent_more [] v.sound.parts.steps _ v.spent tt;
     order = told_stepped (λ l. AreInOrder moment l.receipts) _ (λ l order. order) lists lists' noted v.order;
     last = told_stepped (λ l. IsLastCount t.durable l.receipts) _ (λ l last. last) lists lists' noted v.last;
   }
@@ -421,6 +430,7 @@ module _ (past : Option Past) (config : Config) (table : TxState) (pool : PoolOf
     sound = sound_accepted lists room v.sound known by_numbers none lists' room' now table' given rec (sym is) fits values goes noted more;
     ranges = v.ranges;
     opening = opening;
+    spent = spent_more [] v.sound.parts.steps _ v.spent tt;
     order = told_stepped (λ l. AreInOrder moment l.receipts) _ (λ l order. order) lists lists' noted v.order;
     last = told_stepped (λ l. IsLastCount t.durable l.receipts) _ (λ l last. last) lists lists' noted v.last;
   }
@@ -442,10 +452,12 @@ valid_chronicle past moment None room config table pool t v = tt
 valid_chronicle past moment (Some l) room config table pool t v =
     let p = v.sound.parts in
     record {
-      legal = subst (λ (b : List Placed). AreLegal b l.steps config) (sym v.sound.told.base) (subst (λ (ss : List Step). AreLegal p.base ss config) (sym v.sound.told.same) (record { each = p.each; opening = v.opening }));
+      legal = subst (λ (b : List Placed). AreLegal b l.steps config) (sym v.sound.told.base) (subst (λ (ss : List Step). AreLegal p.base ss config) (sym v.sound.told.same) (record { each = p.each; opening = v.opening.0 }));
+      rolled = subst (λ (b : List Placed). AreAppended (length (rolled_back b)) l.steps) (sym v.sound.told.base) (subst (λ (ss : List Step). AreAppended (length (rolled_back p.base)) ss) (sym v.sound.told.same) v.opening.1);
       history = p.count ∙ ap (λ (n : ℕ). length (records_of p.closed) + n) (sym (length-placed t.file.id p.items)) ∙ sym (length-append (records_of p.closed) _) ∙ ap length (sym p.placed) ∙ ap (λ (ss : List Step). length (history_of ss)) (sym v.sound.told.same);
       crash_safe = valid_safe opened past moment (Some l) room config table pool t v;
       last = v.last;
+      spent = subst (λ (ss : List Step). AreSpentAtLast [] ss) (sym v.sound.told.same) v.spent;
     }
 
 open_few : (id tx : ℕ) (l : List Placed) → count_by (λ p. eqb p.file id) (open_changes tx l) ≤ count_by (λ p. eqb p.file id) l
@@ -495,5 +507,6 @@ valid_room stage past moment lists lists' room room' config table pool t same mo
   ranges = v.ranges;
   opening = v.opening;
   order = subst (λ (l : Option Lists). IfSome l (λ l. AreInOrder moment l.receipts)) (sym same) v.order;
+  spent = v.spent;
   last = subst (λ (l : Option Lists). IfSome l (λ l. IsLastCount t.durable l.receipts)) (sym same) v.last;
 }

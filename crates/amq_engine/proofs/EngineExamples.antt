@@ -12,7 +12,7 @@ use Rattle.amq_model.specs.declared.record.Record.TheVariants as r
 use Rattle.amq_model.specs.Legal.{IsOpeningStep}
 use Rattle.amq_model.specs.declared.refusal.DiskCall.TheVariants.{Rename}
 use Rattle.amq_model.specs.declared.refusal.Refusal.TheVariants.{TooLarge, NoRecord, FileIdsSpent}
-use Rattle.amq_engine.specs.Engine.{EngineOf, flushes, moves, prepares, asks_disk, spent, refused, must_flush, behind_command, behind_tick, BehindRefused, opened, rolling, HasOpened}
+use Rattle.amq_engine.specs.Engine.{EngineOf, flushes, moves, prepares, asks_disk, spent, refused, must_flush, behind_command, behind_tick, BehindRefused, opened, rolling, HasOpened, AreSpentAtLast}
 
 -- files of 1024 bytes, and a buffer of 100, the first record of which waits at most 3 ticks
 abbrev config : Config
@@ -360,7 +360,7 @@ is_the_first = record { seat = refl; number = refl; command = refl }
 
 -- where nothing was there, nothing is rolled back
 pub nothing_to_roll_back : HasOpened opened [] []
-nothing_to_roll_back = λ k x lt. absurd (omega (arith, lt))
+nothing_to_roll_back = (λ k x lt. absurd (omega (arith, lt)), refl)
 
 -- so is it where the opening begins
 pub it_begins : HasOpened (rolling left_open 0) left_open []
@@ -372,15 +372,34 @@ one_is_rolled_back = (refl, refl, (is_the_first, tt), refl)
 
 -- then the opening is done
 pub all_are_rolled_back : HasOpened opened left_open (rolls_back 0 1 ∷ [])
-all_are_rolled_back = (is_the_first, λ k x lt. absurd (omega (arith, lt)))
+all_are_rolled_back = ((is_the_first, λ k x lt. absurd (omega (arith, lt))), refl)
 
 -- and a command of another seat may follow
 pub one_command_follows : HasOpened opened left_open (rolls_back 0 1 ∷ rolls_back 4 1 ∷ [])
-one_command_follows = (is_the_first, All-cons (λ s. 0 < s.seat) (rolls_back 4 1) [] (omega arith) (All-nil (λ s. 0 < s.seat)))
+one_command_follows = ((is_the_first, All-cons (λ s. 0 < s.seat) (rolls_back 4 1) [] (omega arith) (All-nil (λ s. 0 < s.seat))), refl)
 
 -- it isn't done before
 pub not_done_without_it : HasOpened opened left_open [] → ⊥
-not_done_without_it h = h
+not_done_without_it h = h.0
+
+-- a step of the opening that was refused isn't its rollback
+pub not_done_where_it_is_refused : HasOpened opened left_open (record { seat = 0; number = 1; command = Rollback 1; answer = Refused (FileIdsSpent (2 ^ 31 - 1)); placed = None } ∷ []) → ⊥
+not_done_where_it_is_refused h = let many : ◌≡◌ {A = ℕ} 0 1 = h.1 in omega (arith, many)
+
+-- ---- spent numbers
+
+-- the rollback stands in the file of the greatest number
+abbrev fills_the_last : Step
+fills_the_last = record { seat = 0; number = 1; command = Rollback 1; answer = Done (Appended 0); placed = Some (record { file = 2 ^ 31 - 1; place = 16; compact = 0; rec = r.Rollback 1 }) }
+
+abbrev is_refused : Step
+is_refused = record { seat = 1; number = 1; command = Add 3 7 []; answer = Refused (FileIdsSpent (2 ^ 31 - 1)); placed = None }
+
+pub spent_behind_the_last_file : AreSpentAtLast [] (fills_the_last ∷ is_refused ∷ [])
+spent_behind_the_last_file = (tt, (refl, tt))
+
+pub not_behind_another_file : AreSpentAtLast [] (rolls_back 0 1 ∷ is_refused ∷ []) → ⊥
+not_behind_another_file h = let file : ◌≡◌ {A = ℕ} 2 2147483647 = h.1.0 in omega (arith, file)
 
 -- another seat's doesn't count
 pub not_of_another_seat : HasOpened (rolling left_open 1) left_open (rolls_back 4 1 ∷ []) → ⊥

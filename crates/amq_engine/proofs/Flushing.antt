@@ -31,6 +31,7 @@ valid_put stage a b moment later m lists lists' room room' config table pool t n
   ranges = v.ranges;
   opening = v.opening;
   order = receipted_order moment later m t.appended t.durable lists lists' (all_most t v.sound.parts) now twice noted v.last v.order;
+  spent = v.spent;
   last = receipted_last m t.appended lists lists' noted;
 } where
   all_most : (t : Tail) → Parts config table pool t → t.durable ≤ t.appended
@@ -45,6 +46,7 @@ valid_failed stage a b moment later lists room config table pool t name bytes na
   ranges = v.ranges;
   opening = v.opening;
   order = told_later moment later lists on v.order;
+  spent = v.spent;
   last = v.last;
 }
 

@@ -20,12 +20,41 @@ use Rattle.amq_engine.specs.declared.tail.Tail.{Tail}
 use Rattle.amq_engine.specs.Engine.{Holds, IsTold, Parts, IsSound, Stage, IsValid, records, gone_on, with_files}
 use Rattle.amq_engine.proofs.History.{few_records, length-placed}
 use Rattle.amq_engine.proofs.Texts.{end_whole}
-use Rattle.amq_engine.proofs.Listing.{listed_next, all_files_more, all_files_on, next_id}
+use Rattle.amq_engine.proofs.Listing.{listed_next, all_files_more, all_files_on, next_id, used_id}
 use Rattle.amq_engine.proofs.Standing.{making_stands, made_stands, stands_on}
 use Rattle.amq_engine.proofs.Holding.{stands_now_holds}
 use Rattle.amq_engine.proofs.Receipts.{if_some, kept_through}
 use Rattle.amq_engine.proofs.Recovering.{told_later}
 use Rattle.amq_engine.proofs.Sound.{none_wait}
+
+-- ---- the numbers of the prepared files
+
+ids_last : (first n : ℕ) → ids_of (files_from first n) ++ (first + n) ∷ [] ≡ ids_of (files_from first (suc n))
+ids_last first zero = ap (λ (k : ℕ). k ∷ []) (omega arith)
+ids_last first (suc n) = ap (λ (l : List ℕ). first ∷ l) (ap (λ (k : ℕ). ids_of (files_from (first + 1) n) ++ k ∷ []) (omega arith) ∙ ids_last (first + 1) n)
+
+-- one file more has the next number
+behind_more : (pool : PoolOf) (file : ℕ) → file ≤ pool.highest → ids_of pool.prepared ≡ ids_of (files_from (file + 1) (pool.highest - file)) → ids_of (pool.prepared ++ numbered_file (pool.highest + 1) ∷ []) ≡ ids_of (files_from (file + 1) (pool.highest + 1 - file))
+behind_more pool file le is =
+    let next : pool.highest + 1 ≡ file + 1 + (pool.highest - file) = omega (arith, le) in
+    let many : suc (pool.highest - file) ≡ pool.highest + 1 - file = omega (arith, le) in
+    map-append (λ (f : PoolFile). f.id) pool.prepared (numbered_file (pool.highest + 1) ∷ [])
+    ∙ ap (λ (l : List ℕ). l ++ (pool.highest + 1) ∷ []) is
+    ∙ ap (λ (k : ℕ). ids_of (files_from (file + 1) (pool.highest - file)) ++ k ∷ []) next
+    ∙ ids_last (file + 1) (pool.highest - file)
+    ∙ ap (λ (k : ℕ). ids_of (files_from (file + 1) k)) many
+
+-- the first of them is taken
+behind_on : (pool : PoolOf) (file : ℕ) (f : PoolFile) → ids_of (f ∷ pool.prepared) ≡ ids_of (files_from (file + 1) (pool.highest - file)) → ids_of pool.prepared ≡ ids_of (files_from (f.id + 1) (pool.highest - f.id))
+behind_on pool file f is = by (pool.highest - file) refl is where
+  by : (n : ℕ) → pool.highest - file ≡ n → f.id ∷ ids_of pool.prepared ≡ ids_of (files_from (file + 1) n) → ids_of pool.prepared ≡ ids_of (files_from (f.id + 1) (pool.highest - f.id))
+  by zero many is = absurd (let e : f.id ∷ ids_of pool.prepared ≡ [] = is in cc)
+  by (suc n) many is =
+      let e : f.id ∷ ids_of pool.prepared ≡ (file + 1) ∷ ids_of (files_from (file + 1 + 1) n) = is in
+      let first : f.id ≡ file + 1 = cc in
+      let rest : ids_of pool.prepared ≡ ids_of (files_from (file + 1 + 1) n) = cc in
+      let left : n ≡ pool.highest - f.id = omega (arith, many, first) in
+      rest ∙ ap (λ (k : ℕ). ids_of (files_from (k + 1) n)) (sym first) ∙ ap (λ (k : ℕ). ids_of (files_from (f.id + 1) k)) left
 
 -- ---- one file more is prepared
 
@@ -49,6 +78,7 @@ parts_prepared config table pool t low is p =
       pool_is = is;
       listed = subst (AreListed (pool.highest + 1) 0) (sym more) (listed_next pool.highest 0 (all_files (p.old ++ p.closed) t.file pool.prepared) p.listed (omega arith) low);
       numbers = omega (arith, low);
+      behind = behind_more pool t.file.id (used_id pool.highest (p.old ++ p.closed) t.file pool.prepared p.listed) p.behind;
       few = p.few;
       capacity = p.capacity;
       timeout = p.timeout;
@@ -117,6 +147,7 @@ valid_unprepared stage a b moment later lists room config table pool t low on le
   ranges = v.ranges;
   opening = v.opening;
   order = told_later moment later lists on v.order;
+  spent = v.spent;
   last = v.last;
 }
 
@@ -128,6 +159,7 @@ valid_prepared stage a b moment later lists room config table pool t low on is l
   ranges = v.ranges;
   opening = v.opening;
   order = told_later moment later lists on v.order;
+  spent = v.spent;
   last = v.last;
 }
 
@@ -166,6 +198,7 @@ module _ (config : Config) (table : TxState) (pool pool' : PoolOf) (t : Tail) (f
         pool_is = here;
         listed = subst (AreListed pool'.highest 0) on listed;
         numbers = omega (arith, p.numbers, ap (λ (q : PoolOf). q.highest) is);
+        behind = behind_on pool' t.file.id f (subst (λ (q : PoolOf). ids_of q.prepared ≡ ids_of (files_from (t.file.id + 1) (q.highest - t.file.id))) is p.behind);
         few = omega (arith, many, p.few, next_id pool'.highest (p.old ++ p.closed) t.file f pool'.prepared listed, few_records p.items, end_whole t.file.id p.sure t.end p.items t.buffer.bytes p.place p.buffered, p.fits, ranges.file_size_most);
         capacity = p.capacity;
         timeout = p.timeout;
@@ -201,6 +234,7 @@ module _ (config : Config) (table : TxState) (pool pool' : PoolOf) (t : Tail) (f
     ranges = v.ranges;
     opening = v.opening;
     order = v.order;
+    spent = v.spent;
     last = v.last;
   }
 

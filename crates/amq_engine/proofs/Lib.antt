@@ -17,6 +17,7 @@ pub mod Beginning
 pub mod Flushing
 pub mod Commanding
 pub mod Noting
+pub mod Spent
 pub mod Accepting
 pub mod Found
 pub mod Begun

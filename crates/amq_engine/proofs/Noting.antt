@@ -134,6 +134,20 @@ pub is_nil_ids : (files : List PoolFile) → is_nil (ids_of files) ≡ is_nil fi
 is_nil_ids [] = refl
 is_nil_ids (x ∷ xs) = refl
 
+-- a command that is refused for the numbers of files isn't too large
+pub not_too_large : (config : Config) (command : Command) (by_table by_numbers : Option Refusal) (highest : ℕ) → refused config by_table by_numbers command ≡ Some (r.FileIdsSpent highest) → too_large config command ≡ None
+not_too_large config command by_table by_numbers highest is = by (too_large config command) refl is where
+  never : (o : Option Record) → record_of command 0 ≡ o → too_large config command ≡ Some (r.FileIdsSpent highest) → ⊥
+  never None here is = let e : None ≡ Some (r.FileIdsSpent highest) = sym (rw (here, too_large) refl) ∙ is in cc
+  never (Some rec) here is = by_limit (ltb (limit config) (len_of rec)) refl where
+    by_limit : (b : Bool) → ltb (limit config) (len_of rec) ≡ b → ⊥
+    by_limit true at = let e : Some (r.TooLarge (len_of rec) (limit config)) ≡ Some (r.FileIdsSpent highest) = sym (rw (here, at, too_large) refl) ∙ is in cc
+    by_limit false at = let e : None ≡ Some (r.FileIdsSpent highest) = sym (rw (here, at, too_large) refl) ∙ is in cc
+
+  by : (o : Option Refusal) → too_large config command ≡ o → first_some (o ∷ by_table ∷ by_numbers ∷ []) ≡ Some (r.FileIdsSpent highest) → too_large config command ≡ None
+  by None one first = one
+  by (Some q) one first = absurd (never (record_of command 0) refl (one ∙ first))
+
 -- the numbers are spent exactly where a file is needed, none is prepared, and the greatest number is given
 pub spent_so : (config : Config) (table : TxState) (command : Command) (m : Bool) (top highest : ℕ) (ids : List ℕ) (refusal : Refusal) → top ≤ 2 ^ 31 - 1 → refused config (refusal_in table command) (spent m top ids) command ≡ Some refusal → refusal ≡ r.FileIdsSpent highest
     → (highest ≡ top) × (highest ≡ 2 ^ 31 - 1) × ((m && is_nil ids) ≡ true)

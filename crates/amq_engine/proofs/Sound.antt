@@ -62,6 +62,7 @@ parts_put config table pool t p = record {
   pool_is = p.pool_is;
   listed = p.listed;
   numbers = p.numbers;
+  behind = p.behind;
   few = p.few;
   capacity = p.capacity;
   timeout = p.timeout;

@@ -1,7 +1,8 @@
 -- How far an opening is, through its rollbacks and behind them.
-use Rattle.std.proofs.Common.{◌≡◌, ℕ, ◌+◌, ◌<◌, List, [], ◌∷◌, ◌++◌, length, drop, Option, Some, sym, ap, subst, ◌∙◌, arith}
+use Rattle.std.proofs.Common.{◌≡◌, ℕ, ◌+◌, ◌<◌, ◌≤◌, List, [], ◌∷◌, ◌++◌, length, drop, Option, Some, sym, ap, subst, ◌∙◌, arith}
+use Rattle.std.specs.Prelude.{take}
 use Rattle.std.specs.List.{cons_option}
-use Rattle.std.proofs.lemmas.List.{length-append}
+use Rattle.std.proofs.lemmas.List.{length-append, take_all, take-append-le}
 use Rattle.std.proofs.lemmas.List.Elements.{All-nil, All-push}
 use Rattle.amq_model.specs.declared.config.Config.{Config}
 use Rattle.amq_model.specs.declared.record.Placed.{Placed}
@@ -17,10 +18,22 @@ use Rattle.amq_engine.specs.Engine.{opened, rolling, HasOpened, IsValid}
 use Rattle.amq_engine.proofs.History.{history-snoc}
 
 -- a step of another seat
-pub opens_more : (n : ℕ) (txs : List ℕ) (steps : List Step) (x : Step) → 0 < x.seat → OpensWith n txs steps → OpensWith n txs (steps ++ x ∷ [])
-opens_more n [] steps x seat all = All-push (λ s. 0 < s.seat) steps x all seat
-opens_more n (tx ∷ txs) [] x seat none = absurd none
-opens_more n (tx ∷ txs) (s ∷ ss) x seat all = (all.0, opens_more (n + 1) txs ss x seat all.1)
+opens_on : (n : ℕ) (txs : List ℕ) (steps : List Step) (x : Step) → 0 < x.seat → OpensWith n txs steps → OpensWith n txs (steps ++ x ∷ [])
+opens_on n [] steps x seat all = All-push (λ s. 0 < s.seat) steps x all seat
+opens_on n (tx ∷ txs) [] x seat none = absurd none
+opens_on n (tx ∷ txs) (s ∷ ss) x seat all = (all.0, opens_on (n + 1) txs ss x seat all.1)
+
+opens_many : (n : ℕ) (txs : List ℕ) (steps : List Step) → OpensWith n txs steps → length txs ≤ length steps
+opens_many n [] steps all = omega arith
+opens_many n (tx ∷ txs) [] none = absurd none
+opens_many n (tx ∷ txs) (s ∷ ss) all = omega (arith, opens_many (n + 1) txs ss all.1)
+
+-- a step of another seat behind it
+pub opens_more : (base : List Placed) (steps : List Step) (x : Step) → 0 < x.seat → HasOpened opened base steps → HasOpened opened base (steps ++ x ∷ [])
+opens_more base steps x seat h = (
+  opens_on 1 (rolled_back base) steps x seat h.0,
+  ap (λ (ss : List Step). length (history_of ss)) (take-append-le (length (rolled_back base)) steps (x ∷ []) (opens_many 1 (rolled_back base) steps h.0)) ∙ h.1,
+)
 
 partly_more : (n : ℕ) (txs : List ℕ) (steps : List Step) (x : Step) (tx : ℕ) (rest : List ℕ) → drop (length steps) txs ≡ tx ∷ rest → IsOpeningStep (n + length steps) tx x → OpensPartly n txs steps → OpensPartly n txs (steps ++ x ∷ [])
 partly_more n [] [] x tx rest next is all = absurd cc
@@ -55,7 +68,12 @@ pub valid_opened : (base : List Placed) (n : ℕ) (past : Option Past) (moment :
 valid_opened base n past moment lists room config table pool t all v = record {
   sound = v.sound;
   ranges = v.ranges;
-  opening = opens_all 1 (rolled_back v.sound.parts.base) v.sound.parts.steps (v.opening.1 ∙ all ∙ sym (ap (λ (b : List Placed). length (rolled_back b)) v.opening.0)) v.opening.2;
+  opening =
+      let many : length v.sound.parts.steps ≡ length (rolled_back v.sound.parts.base) = v.opening.1 ∙ all ∙ sym (ap (λ (b : List Placed). length (rolled_back b)) v.opening.0) in (
+        opens_all 1 (rolled_back v.sound.parts.base) v.sound.parts.steps many v.opening.2,
+        ap (λ (ss : List Step). length (history_of ss)) (ap (λ (k : ℕ). take k v.sound.parts.steps) (sym many) ∙ take_all (length v.sound.parts.steps) v.sound.parts.steps (omega arith)) ∙ v.opening.3 ∙ sym v.opening.1 ∙ many,
+      );
   order = v.order;
+  spent = v.spent;
   last = v.last;
 }

@@ -20,7 +20,7 @@ use Rattle.amq_engine.specs.declared.chronicle.Receipted.{Receipted}
 use Rattle.amq_engine.specs.declared.tail.Tail.{Tail}
 use Rattle.amq_engine.specs.Lists.{Lists}
 use Rattle.amq_engine.specs.Directory.{files_from}
-use Rattle.amq_engine.specs.Engine.{rolling, IsValid, IsBlank, with_files}
+use Rattle.amq_engine.specs.Engine.{rolling, IsValid, IsBlank, AreSpentAtLast, with_files}
 use Rattle.amq_engine.specs.Opening.{HasBase, HasNumbers, AreRolledBack, EndsIn, IsFilled, HasOpenCause, HasRollCause, NeedsFile, rollbacks_behind}
 use Rattle.amq_engine.specs.Receipts.{IsLastCount}
 use Rattle.amq_engine.proofs.Receipts.{if_some}
@@ -108,6 +108,11 @@ module _ (past : Option Past) (moment : ℕ) (room : ℕ) (config : Config) (tab
       let p = v.sound.parts in
       subst (λ (ss : List Step). length (history_of ss) ≡ length ss) (sym v.sound.told.same) (v.opening.3 ∙ sym v.opening.1)
 
+  -- and none was refused
+  pub valid_spent : (lists : Option Lists) → IsValid (rolling base n) past moment lists room config table pool t → IfSome lists (λ l. AreSpentAtLast [] l.steps)
+  valid_spent None v = tt
+  valid_spent (Some l) v = subst (λ (ss : List Step). AreSpentAtLast [] ss) (sym v.sound.told.same) v.spent
+
   -- and a receipt
   pub valid_noted : (P : Type 0) (lists : Option Lists) → IsValid (rolling base n) past moment lists room config table pool t → IfSome lists (λ l. l.receipts ≡ [] → P)
   valid_noted P lists v = if_some (λ l. IsLastCount t.durable l.receipts) (λ l. l.receipts ≡ [] → P) lists (λ l last none. absurd (some l last none)) v.last
@@ -118,6 +123,9 @@ module _ (past : Option Past) (moment : ℕ) (room : ℕ) (config : Config) (tab
 -- before the first rollback
 pub unstepped_legal : (config : Config) (lists : Option Lists) → IfSome lists (λ l. l.steps ≡ []) → IfSome lists (λ l. AreLegalOfRefused l.base l.steps config)
 unstepped_legal config lists none = if_some (λ l. l.steps ≡ []) (λ l. AreLegalOfRefused l.base l.steps config) lists (λ l is. subst (λ (ss : List Step). AreLegalOfRefused l.base ss config) (sym is) (record { each = tt; opening = tt })) none
+
+pub unstepped_spent : (lists : Option Lists) → IfSome lists (λ l. l.steps ≡ []) → IfSome lists (λ l. AreSpentAtLast [] l.steps)
+unstepped_spent lists none = if_some (λ l. l.steps ≡ []) (λ l. AreSpentAtLast [] l.steps) lists (λ l is. subst (λ (ss : List Step). AreSpentAtLast [] ss) (sym is) tt) none
 
 pub unstepped_appended : (lists : Option Lists) → IfSome lists (λ l. l.steps ≡ []) → IfSome lists (λ l. length (history_of l.steps) ≡ length l.steps)
 unstepped_appended lists none = if_some (λ l. l.steps ≡ []) (λ l. length (history_of l.steps) ≡ length l.steps) lists (λ l is. subst (λ (ss : List Step). length (history_of ss) ≡ length ss) (sym is) refl) none

@@ -1,5 +1,5 @@
 -- What clauses see of an engine, and what is always so of one.
-use Rattle.std.specs.Prelude.{◌≡◌, ◌⊎◌, ◌↔◌, IsTrue, zero, suc, ◌&&◌, nat_le, ℕ, ◌+◌, ◌-◌, ◌*◌, ◌^◌, ◌<◌, ◌≤◌, max, Bool, true, false, ◌||◌, nat_lt, ◌==◌, if◌then◌else◌, List, [], ◌∷◌, ◌++◌, length, take, drop, Option, None, Some, is_some, option_map, Result, Ok, Err, IfSome, All, refl}
+use Rattle.std.specs.Prelude.{◌≡◌, ◌⊎◌, ◌↔◌, IsTrue, zero, suc, ◌&&◌, nat_le, ℕ, ◌+◌, ◌-◌, ◌*◌, ◌^◌, ◌<◌, ◌≤◌, max, Bool, true, false, ◌||◌, nat_lt, ◌==◌, if◌then◌else◌, fold, List, [], ◌∷◌, ◌++◌, length, take, drop, Option, None, Some, is_some, option_map, Result, Ok, Err, IfSome, All, refl}
 use Rattle.std.specs.Coded.{Coded, code_by, coded×, coded_ℕ, coded_option, coded_list}
 use Rattle.amq_model.specs.declared.record.Record.{Record}
 use Rattle.amq_model.specs.declared.record.Placed.{Placed}
@@ -30,7 +30,7 @@ use Rattle.amq_model.specs.declared.history.Step.{Step}
 use Rattle.amq_scan.specs.Written.{Item, IsItem, spelled, end_from}
 use Rattle.amq_scan.specs.Segments.{Segment, records_of, IsDirectory}
 use Rattle.amq_pool.specs.declared.pool.PoolFile.{PoolFile}
-use Rattle.amq_pool.specs.Pools.{PoolOf, IsPool, numbered_file, with_next}
+use Rattle.amq_pool.specs.Pools.{PoolOf, IsPool, ids_of, numbered_file, with_next}
 use Rattle.amq_engine.specs.declared.chronicle.Receipted.{Receipted}
 use Rattle.amq_engine.specs.declared.tail.Tail.{Tail}
 use Rattle.amq_io.specs.Cause.{Rose, Faults}
@@ -38,7 +38,7 @@ use Rattle.amq_io.specs.declared.faults.DiskFault.{DiskFault}
 use Rattle.amq_io.specs.declared.faults.DiskFault.TheVariants as f
 use Rattle.amq_engine.specs.Lists.{Lists, with_step, with_receipt}
 use Rattle.amq_engine.specs.Receipts.{AreInOrder, IsLastCount, IsCrashSafe}
-use Rattle.amq_engine.specs.Directory.{placed_in, AreListed, all_files, StandsNow}
+use Rattle.amq_engine.specs.Directory.{placed_in, AreListed, all_files, files_from, StandsNow}
 
 -- ---- the value
 
@@ -209,7 +209,20 @@ pub record IsTold (past : Option Past) (wanted : ℕ) (known : List Placed) (dur
 abbrev pub records : List Segment → PoolFile → List Item → List Placed
 records closed used items = records_of closed ++ placed_in used.id items
 
--- What is so of the parts of an engine, whatever the disk reads: the steps are legal behind the base, and the table is that of both; the old files, which were there at the opening, have the base; those that were closed since then and the file in use have the history, which goes on in the buffer.
+-- the file of the last record, 0 where there is none
+abbrev pub last_file : List Placed → ℕ
+last_file history = fold (λ _ p. p.file) 0 history
+
+-- a step that was refused since the numbers of files are spent stands behind an append in the file of the greatest number
+abbrev pub IsSpentAtLast : List Step → Step → Type 0
+IsSpentAtLast before s = elim s.answer [ Done reply ↦ Unit {0} | Refused refusal ↦ elim refusal [ r.FileIdsSpent highest ↦ last_file (history_of before) ≡ 2 ^ 31 - 1 | _ ↦ Unit {0} ] ]
+
+-- so it is of each of these steps behind the others
+abbrev pub AreSpentAtLast : List Step → List Step → Type 0
+AreSpentAtLast before [] = Unit {0}
+AreSpentAtLast before (s ∷ ss) = IsSpentAtLast before s × AreSpentAtLast (before ++ s ∷ []) ss
+
+-- What is so of the parts of an engine, whatever the disk reads: the steps are legal behind the base, and the table is that of both; the old files, which were there at the opening, have the base; those that were closed since then and the file in use have the history, which goes on in the buffer; the prepared files have the numbers behind that of the file in use.
 pub record Parts (config : Config) (table : TxState) (pool : PoolOf) (tail : Tail) : Type 0 where
   pub base : List Placed
   pub old : List Segment
@@ -226,6 +239,7 @@ pub record Parts (config : Config) (table : TxState) (pool : PoolOf) (tail : Tai
   pub pool_is : IsPool pool
   pub listed : AreListed pool.highest 0 (all_files (old ++ closed) tail.file pool.prepared)
   pub numbers : pool.highest ≤ 2 ^ 31 - 1
+  pub behind : ids_of pool.prepared ≡ ids_of (files_from (tail.file.id + 1) (pool.highest - tail.file.id))
   pub few : length (records_of closed) ≤ tail.file.id * 268435456
   pub capacity : tail.buffer.capacity ≡ config.buffer_size
   pub timeout : tail.buffer.timeout ≡ config.buffer_timeout
@@ -249,9 +263,13 @@ pub data Stage : Type 0 where
   opened : Stage
   rolling : List Placed → ℕ → Stage
 
--- so far its steps are there: all of them, and then those of other seats; or so many of them, each of which was appended, and no other step
+-- each of the first steps, so many, was appended
+abbrev pub AreAppended : ℕ → List Step → Type 0
+AreAppended n steps = length (history_of (take n steps)) ≡ n
+
+-- so far its steps are there: all of them, each of which was appended, and then those of other seats; or so many of them, each of which was appended, and no other step
 abbrev pub HasOpened : Stage → List Placed → List Step → Type 0
-HasOpened opened base steps = OpensWith 1 (rolled_back base) steps
+HasOpened opened base steps = OpensWith 1 (rolled_back base) steps × AreAppended (length (rolled_back base)) steps
 HasOpened (rolling known n) base steps = (base ≡ known) × (length steps ≡ n) × OpensPartly 1 (rolled_back base) steps × (length (history_of steps) ≡ n)
 
 -- the same, with the range of the parameters, the steps of the opening, and receipts in order, the last of which counts what is durable
@@ -259,12 +277,15 @@ pub record IsValid (stage : Stage) (past : Option Past) (moment : ℕ) (lists : 
   pub sound : IsSound past lists receipt_room config table pool tail
   pub ranges : IsConfig config
   pub opening : HasOpened stage sound.parts.base sound.parts.steps
+  pub spent : AreSpentAtLast [] sound.parts.steps
   pub order : IfSome lists (λ l. AreInOrder moment l.receipts)
   pub last : IfSome lists (λ l. IsLastCount tail.durable l.receipts)
 
 -- what is always so of the chronicle of a journal with so many appends, of which so many are durable
 pub record IsChronicle (past : Option Past) (moment : ℕ) (config : Config) (appended durable : ℕ) (l : Lists) : Type 0 where
   pub legal : AreLegal l.base l.steps config
+  pub rolled : AreAppended (length (rolled_back l.base)) l.steps
+  pub spent : AreSpentAtLast [] l.steps
   pub history : appended ≡ length (history_of l.steps)
   pub crash_safe : IsCrashSafe past moment config.user_version l
   pub last : IsLastCount durable l.receipts

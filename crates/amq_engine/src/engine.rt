@@ -12,7 +12,7 @@ ghost use Rattle.amq_loader.specs.Loads.{IsStateOf, IsTidy};
 ghost use Rattle.amq_engine.specs.Directory.{IsJournal};
 ghost use Rattle.amq_engine.specs.Opening.{HasBase, AreRolledBack, AreFirstRollbacks, IsFilled, HasOpenCause};
 ghost use Rattle.amq_engine.specs.Receipts.{IsCrashSafe, GoesOn, BeginsBySyncs};
-ghost use Rattle.amq_engine.specs.Engine.{Notes, IsCommandAnswer, IsCommandRefusal, IsChronicle, IsBlank, HasCause, IsFlushRefusal, closed_after, durable_after, fault_refusal, closed_by, receipted, IsReply, prepares, asks_disk, flushed, behind_command, BehindRefused, behind_tick, must_flush, at_clock};
+ghost use Rattle.amq_engine.specs.Engine.{Notes, IsCommandAnswer, IsCommandRefusal, IsChronicle, IsBlank, AreSpentAtLast, HasCause, IsFlushRefusal, closed_after, durable_after, fault_refusal, closed_by, receipted, IsReply, prepares, asks_disk, flushed, behind_command, BehindRefused, behind_tick, must_flush, at_clock};
 
 use crate::chronicle::Chronicle;
 use crate::commands::{numbered, refusal_of, room_for};
@@ -127,6 +127,7 @@ impl<D: Disk, C: Chronicle> Engine<D, C> {
         ensures failed_safe { IfErr result (λ e. IfSome (C.lists e.chronicle) (IsCrashSafe (D.past e.disk) (D.moment e.disk) config.user_version)) }
         ensures failed_base { IfErr result (λ e. IfSome (C.lists e.chronicle) (λ l. IsBlank l ⊎ Told (D.past disk) (HasBase config.user_version l.base))) }
         ensures failed_rollbacks { IfErr result (λ e. IfSome (C.lists e.chronicle) (λ l. IsBlank l ⊎ Told (D.past disk) (AreFirstRollbacks config l))) }
+        ensures failed_spent { IfErr result (λ e. IfSome (C.lists e.chronicle) (λ l. AreSpentAtLast [] l.steps)) }
         ensures failed_unnoted { IfErr result (λ e. IfSome (C.lists e.chronicle) (λ l. l.receipts ≡ [] → IsBlank l)) }
         ensures begins { IfOk result (λ e. IfSome (C.lists e.0.chronicle) (λ l. BeginsBySyncs l.receipts (D.past disk) (D.past e.0.disk))) }
         ensures failed_begins { IfErr result (λ e. IfSome (C.lists e.chronicle) (λ l. BeginsBySyncs l.receipts (D.past disk) (D.past e.disk))) }

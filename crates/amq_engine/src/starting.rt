@@ -12,7 +12,7 @@ ghost use Rattle.amq_loader.specs.Loads.{IsStateOf, IsTidy};
 ghost use Rattle.amq_engine.specs.declared.chronicle.Receipted.{Receipted};
 ghost use Rattle.amq_engine.specs.Directory.{files_from};
 ghost use Rattle.amq_engine.specs.Receipts.{IsCrashSafe, GoesOn, BeginsBySyncs, StartsWith};
-ghost use Rattle.amq_engine.specs.Engine.{opened, rolling, IsValid, IsBlank, end_of_tail};
+ghost use Rattle.amq_engine.specs.Engine.{opened, rolling, IsValid, IsBlank, AreSpentAtLast, end_of_tail};
 ghost use Rattle.amq_engine.specs.Opening.{HasBase, AreRolledBack, AreFirstRollbacks, EndsIn, IsFilled, HasOpenCause, HasRollCause, rollbacks_behind};
 
 use crate::chronicle::Chronicle;
@@ -110,6 +110,7 @@ pub fn start<D: Disk, C: Chronicle>(
     ensures failed_safe { OnErr result (IfSome (C.lists chronicle.new) (IsCrashSafe (D.past disk.new) (D.moment disk.new) config.now.user_version)) }
     ensures failed_base { OnErr result (IfSome (C.lists chronicle.new) (λ l. IsBlank l ⊎ Told (D.past disk.old) (HasBase config.now.user_version l.base))) }
     ensures failed_rollbacks { OnErr result (IfSome (C.lists chronicle.new) (λ l. IsBlank l ⊎ Told (D.past disk.old) (AreFirstRollbacks config.now l))) }
+    ensures failed_spent { OnErr result (IfSome (C.lists chronicle.new) (λ l. AreSpentAtLast [] l.steps)) }
     ensures unnoted { IfSome (C.lists chronicle.new) (λ l. l.receipts ≡ [] → IsBlank l) }
     ensures begins { IfSome (C.lists chronicle.new) (λ l. BeginsBySyncs l.receipts (D.past disk.old) (D.past disk.new)) }
 {

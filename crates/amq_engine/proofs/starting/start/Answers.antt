@@ -1,11 +1,12 @@
 use Rattle.std.proofs.Common.{◌≡◌, ◌⊎◌, inl, ℕ, ◌+◌, ◌-◌, ◌^◌, List, [], length, refl, sym, ap, subst, ◌∙◌, rules}
 use Rattle.std.specs.Prelude.{Err, IfErr, IfSome, min, take}
+use Rattle.amq_model.specs.declared.history.Step.{Step}
 use Rattle.amq_model.specs.Answers.{history_of}
 use Rattle.amq_model.specs.Effect.{result_of}
 use Rattle.amq_model.specs.Legal.{rolled_back, AreLegalOfRefused}
 use Rattle.amq_tx.specs.Tables.{state_of}
 use Rattle.amq_model.specs.Leaves.{Told}
-use Rattle.amq_engine.specs.Engine.{end_of_tail, IsBlank}
+use Rattle.amq_engine.specs.Engine.{end_of_tail, IsBlank, AreSpentAtLast}
 use Rattle.amq_engine.specs.Opening.{HasBase, AreFirstRollbacks, HasOpenCause, rollbacks_behind}
 use Rattle.amq_engine.specs.Receipts.{IsCrashSafe}
 use Rattle.amq_engine.proofs.Receipts.{if_some}
@@ -15,7 +16,7 @@ use Rattle.amq_engine.proofs.Beginning.{begins_blank, begins_through}
 use Rattle.amq_engine.proofs.RollingBack.{rolled_safe}
 use Rattle.amq_engine.proofs.Begun.{still_blank}
 use Rattle.amq_engine.proofs.Rollbacks.{both_so, placed_all, told_rollbacks}
-use Rattle.amq_engine.proofs.Started.{told_filled, valid_base, valid_rolled_back, valid_appended, valid_noted, on_err, same_base, roll_cause, unblank}
+use Rattle.amq_engine.proofs.Started.{told_filled, valid_base, valid_rolled_back, valid_appended, valid_noted, valid_spent, on_err, same_base, roll_cause, unblank}
 use Rattle.amq_engine.proofs.starting.start.Goals as goal
 
 -- nothing was asked
@@ -166,3 +167,15 @@ returns-in_err-complete-clause-cause g c =
     let is : c.from_residual-in_err-complete.result ≡ Err fault = search rules in
     subst (λ r. IfErr r (λ fault. HasOpenCause config fault (lists c.complete.new.chronicle) (past c.args.disk.now) (past c.complete.new.disk) (faults c.args.disk.now) (faults c.complete.new.disk))) (sym is)
     (roll_cause fault config (lists c.complete.new.chronicle) (past c.args.disk.now) (past c.complete.new.disk) (faults c.args.disk.now) (faults c.begin.new.disk) (faults c.complete.new.disk) c.begin.ensures.later c.in_ok-table.ensures.faults based c.in_err-complete.ensures.cause)
+
+pub returns-in_err-complete-clause-failed_spent : goal.returns-in_err-complete-clause-failed_spent
+returns-in_err-complete-clause-failed_spent g c =
+    let lists = g.C.Chronicle.lists c.complete.new.chronicle in
+    let begun = c.in_ok-table.ensures.valid c.in-Ok.buffer c.in-Ok.ensures in
+    let failed = c.in_err-complete.ensures.failed begun.0 (c.as_slice.ensures.value ∙ begun.2) begun.1 in
+    on_err _ (IfSome lists (λ l. AreSpentAtLast [] l.steps)) (valid_spent (g.D.Disk.past c.complete.new.disk) (g.D.Disk.moment c.complete.new.disk) (g.C.Chronicle.receipt_room c.complete.new.chronicle) c.args.config.now (state_of c.complete.new.table) c.complete.new.pool c.complete.new.tail begun.0 failed.0 lists failed.1)
+
+pub returns-in_default-clause-failed_spent : goal.returns-in_default-clause-failed_spent
+returns-in_default-clause-failed_spent g c =
+    let lists = g.C.Chronicle.lists c.args.chronicle.now in
+    still_blank (λ l. AreSpentAtLast [] l.steps) lists lists refl (λ l blank. subst (λ (ss : List Step). AreSpentAtLast [] ss) (sym blank.1) tt) c.requires.blank

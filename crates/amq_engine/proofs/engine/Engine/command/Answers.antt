@@ -23,6 +23,7 @@ use Rattle.amq_engine.proofs.Flushing.{written_durable, seen}
 use Rattle.amq_engine.proofs.Accepting.{written_first, reply_is, seen_accepted, values_of, not_closed}
 use Rattle.amq_engine.proofs.Commanding.{few_appends, small_id, base_below, count_fits, put_fits, numbers_left, table_accepts, valid_refused, valid_accepted, valid_chronicle, valid_room}
 use Rattle.amq_engine.proofs.Stages.{opens_more}
+use Rattle.amq_engine.proofs.Spent.{spent_at_last}
 use Rattle.amq_engine.proofs.Noting.{noted_refused, noted_failed, noted_accepted, fault_not_spent, spent_so, asks_nothing, same_disk, nothing_refused, fits_buffer, both_true, nil_is, is_nil_ids}
 use Rattle.amq_engine.proofs.GoingOn.{goes_still}
 use Rattle.amq_engine.proofs.engine.Engine.command.Goals as goal
@@ -72,7 +73,8 @@ invariant_of-self-in-Some-refusal_of g c =
     c.passes-moves.ensures ∙ ap (λ (n : ℕ). passes e.config.file_size n (option_map len_of c.in-Ok.rec)) ends ∙ ap (passes e.config.file_size (end_of_tail e.tail)) c.in-Ok.ensures.length in
     let is = ap (λ (m : Bool). refused e.config (refusal_in table c.args.command) (spent m e.pool.highest (ids_of e.pool.prepared)) c.args.command) (sym moves) ∙ sym c.in-Some-refusal_of.ensures.first in
     valid_refused past e.config table e.pool e.tail c.args.command c.args.seat c.args.number opened opened moment (lists e.chronicle) (lists c.step.new.self) (room e.chronicle) (room c.step.new.self) c.in-Some-refusal_of.refusal same
-    (refusals_are table parts.base parts.steps parts.follows c.args.command) is (opens_more 1 (rolled_back parts.base) parts.steps _ c.requires.producer same.opening)
+    (refusals_are table parts.base parts.steps parts.follows c.args.command) is (opens_more parts.base parts.steps _ c.requires.producer same.opening)
+    (spent_at_last e.config table e.pool e.tail parts c.args.command same.ranges c.passes-moves.result c.args.seat c.args.number c.in-Some-refusal_of.refusal moves (sym c.in-Some-refusal_of.ensures.first))
     (c.step.ensures.noted ∙ ap (option_map (with_step _)) c.room_for.ensures.lists) (omega (arith, c.room_for.ensures.room, c.step.ensures.receipts))
 
 pub returns-in-Some-refusal_of-clause-noted : goal.returns-in-Some-refusal_of-clause-noted
@@ -271,7 +273,7 @@ invariant_of-self-2 g c =
     subst (λ (u : Tail). IsValid opened (g.D.Disk.past c.ready.new.disk) (g.D.Disk.moment c.ready.new.disk) (lists c.step-2.new.self) (room c.step-2.new.self) e.config (state_of c.apply-given.new.self) c.ready.new.pool u) (sym c.put_record-reply.ensures.tail)
     (valid_accepted (g.D.Disk.past c.ready.new.disk) e.config table c.ready.new.pool t command c.args.seat c.args.number opened opened (g.D.Disk.moment c.ready.new.disk) (lists c.ready.new.chronicle) (lists c.step-2.new.self) (room c.ready.new.chronicle) (room c.step-2.new.self) e.clock
     (state_of c.apply-given.new.self) c.apply-given.result rec by_numbers valid (refusals_are table base steps parts.follows command) none numbered (c.apply-given.ensures.journal base steps parts.follows) values fits empty
-    (λ x accepted. c.apply-given.ensures.follows base steps x parts.follows accepted) (opens_more 1 (rolled_back base) steps _ c.requires.producer valid.opening) noted (omega (arith, two, c.ready.ensures.room, c.step-2.ensures.receipts)))
+    (λ x accepted. c.apply-given.ensures.follows base steps x parts.follows accepted) (opens_more base steps _ c.requires.producer valid.opening) noted (omega (arith, two, c.ready.ensures.room, c.step-2.ensures.receipts)))
 
 pub returns-clause-noted : goal.returns-clause-noted
 returns-clause-noted g c =
