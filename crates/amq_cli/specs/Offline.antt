@@ -5,7 +5,7 @@ use Rattle.amq_model.specs.declared.script.Line.{Line}
 use Rattle.amq_model.specs.declared.script.Line.TheVariants as l
 use Rattle.amq_model.specs.declared.config.Config.{Config}
 use Rattle.amq_model.specs.declared.directory.OpenFault.TheVariants as o
-use Rattle.amq_model.specs.Legal.{AreLegal, AreLegalOfRefused}
+use Rattle.amq_model.specs.Legal.{AreLegal, AreLegalOfRefused, rolled_back}
 use Rattle.amq_model.specs.declared.history.Step.{Step}
 use Rattle.amq_model.specs.declared.record.Placed.{Placed}
 use Rattle.amq_model.specs.declared.state.LoadState.{LoadState}
@@ -19,6 +19,7 @@ use Rattle.amq_model.specs.Names.{control_name}
 use Rattle.amq_model.specs.Texts.{report_of, refusal_line}
 use Rattle.amq_io.specs.Cause.{Rose, Faults}
 use Rattle.amq_loader.specs.Loads.{IsFaulty, IsStateOf}
+use Rattle.amq_engine.specs.Engine.{AreAppended}
 use Rattle.amq_engine.specs.Opening.{HasBase, HasOpenCause}
 use Rattle.amq_engine.specs.Lists.{Lists}
 use Rattle.amq_engine.specs.declared.chronicle.Kept.{Kept}
@@ -107,6 +108,10 @@ is_of_refused _ = false
 -- The steps are a legal history; or the opening was refused, the steps are the first of its rollbacks alone, and nothing is written.
 abbrev pub HasLegal : Status → Config → List Placed → List Step → Type 0 → Type 0
 HasLegal status config base steps Silent = AreLegal base steps config ⊎ ((is_of_refused status ≡ true) × AreLegalOfRefused base steps config × Silent)
+
+-- Each transaction that the opening rolls back has its ROLLBACK among the appends; or the opening was refused, and each of its steps was appended.
+abbrev pub HasRolledBack : Status → List Placed → List Step → Type 0
+HasRolledBack status base steps = AreAppended (length (rolled_back base)) steps ⊎ ((is_of_refused status ≡ true) × AreAppended (length steps) steps)
 
 -- all lines were answered
 abbrev pub AreAll : List Line → List Answered → Type 0

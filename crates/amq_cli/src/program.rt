@@ -4,10 +4,11 @@ ghost use Rattle.amq_model.specs.Answers.{history_of};
 ghost use Rattle.amq_model.specs.Configs.{IsConfig};
 ghost use Rattle.amq_model.specs.Leaves.{Told, LeavesNothingNew};
 ghost use Rattle.amq_io.specs.Cause.{Rose};
+ghost use Rattle.amq_engine.specs.Engine.{IsBlank, AreSpentAtLast};
 ghost use Rattle.amq_engine.specs.Opening.{HasBase};
 ghost use Rattle.amq_engine.specs.Receipts.{IsCrashSafe, IsLastCount, BeginsBySyncs};
 ghost use Rattle.amq_cli.specs.Words.{asked, prints, reads_script};
-ghost use Rattle.amq_cli.specs.Offline.{lists_of, HasCause, HasLegal, HasPlayCause, IsRun, IsPlayed, IsTextOf, IsOutput, IsPrint, IsScript, IsLoadedState, is_before_opening, is_past_script, is_unwritten, defaults, IsWritten};
+ghost use Rattle.amq_cli.specs.Offline.{lists_of, HasCause, HasLegal, HasRolledBack, HasPlayCause, IsRun, IsPlayed, IsTextOf, IsOutput, IsPrint, IsScript, IsLoadedState, is_before_opening, is_past_script, is_unwritten, defaults, IsWritten};
 ghost use Rattle.amq_cli.specs.Output.{IsPartWritten};
 ghost use Rattle.amq_cli.specs.Replay.{is_built};
 
@@ -61,6 +62,9 @@ pub fn offline<D: Disk, S: Source, K: Sink>(
     ensures crash_safe { IsCrashSafe (D.past result.1) (D.moment result.1) defaults.user_version (lists_of result.2) }
     ensures durable { prints (asked words.now) ≡ false → (result.0 ≡ Status.Ok) ⊎ (result.0 ≡ Status.SinkFault) → IsLastCount (length (history_of result.2.steps.items)) result.2.receipts.items }
     ensures opened { (result.2.receipts.items ≡ []) ⊎ Told (D.past disk) (HasBase defaults.user_version result.2.base) }
+    ensures blank { result.2.receipts.items ≡ [] → IsBlank (lists_of result.2) }
+    ensures spent { AreSpentAtLast [] result.2.steps.items }
+    ensures rolled { HasRolledBack result.0 result.2.base result.2.steps.items }
     ensures nothing_new { result.2.receipts.items ≡ [] → LeavesNothingNew (D.past disk) (D.past result.1) }
     ensures begins { BeginsBySyncs result.2.receipts.items (D.past disk) (D.past result.1) }
 {
@@ -105,6 +109,9 @@ pub fn offline_with<D: Disk, S: Source, K: Sink>(
     ensures crash_safe { IsCrashSafe (D.past result.1) (D.moment result.1) config.user_version (lists_of result.2) }
     ensures durable { prints (asked words.now) ≡ false → (result.0 ≡ Status.Ok) ⊎ (result.0 ≡ Status.SinkFault) → IsLastCount (length (history_of result.2.steps.items)) result.2.receipts.items }
     ensures opened { (result.2.receipts.items ≡ []) ⊎ Told (D.past disk) (HasBase config.user_version result.2.base) }
+    ensures blank { result.2.receipts.items ≡ [] → IsBlank (lists_of result.2) }
+    ensures spent { AreSpentAtLast [] result.2.steps.items }
+    ensures rolled { HasRolledBack result.0 result.2.base result.2.steps.items }
     ensures nothing_new { result.2.receipts.items ≡ [] → LeavesNothingNew (D.past disk) (D.past result.1) }
     ensures begins { BeginsBySyncs result.2.receipts.items (D.past disk) (D.past result.1) }
 {
@@ -158,6 +165,9 @@ fn play<D: Disk, K: Sink>(
     ensures crash_safe { IsCrashSafe (D.past result.1) (D.moment result.1) config.user_version (lists_of result.2) }
     ensures durable { (result.0 ≡ Status.Ok) ⊎ (result.0 ≡ Status.SinkFault) → IsLastCount (length (history_of result.2.steps.items)) result.2.receipts.items }
     ensures opened { (result.2.receipts.items ≡ []) ⊎ Told (D.past disk) (HasBase config.user_version result.2.base) }
+    ensures blank { result.2.receipts.items ≡ [] → IsBlank (lists_of result.2) }
+    ensures spent { AreSpentAtLast [] result.2.steps.items }
+    ensures rolled { HasRolledBack result.0 result.2.base result.2.steps.items }
     ensures nothing_new { result.2.receipts.items ≡ [] → LeavesNothingNew (D.past disk) (D.past result.1) }
     ensures begins { BeginsBySyncs result.2.receipts.items (D.past disk) (D.past result.1) }
 {

@@ -2,11 +2,12 @@
 ghost use Rattle.std.specs.Prelude.{◌≡◌, ◌≢◌, ◌⊎◌, ◌^◌, ◌<◌, ◌≤◌, true, [], length, All, IsTrue, None, IfSome};
 ghost use Rattle.amq_model.specs.Answers.{history_of};
 ghost use Rattle.amq_model.specs.Configs.{IsConfig};
-ghost use Rattle.amq_model.specs.Legal.{AreLegal};
+ghost use Rattle.amq_model.specs.Legal.{AreLegal, rolled_back};
+ghost use Rattle.amq_engine.specs.Engine.{IsBlank, AreAppended, AreSpentAtLast};
 ghost use Rattle.amq_engine.specs.Opening.{HasBase};
 ghost use Rattle.amq_model.specs.Leaves.{Leaves, Unchanged, LeavesNothingNew, Told};
 ghost use Rattle.amq_engine.specs.Receipts.{IsCrashSafe, IsLastCount, GoesOn, BeginsBySyncs};
-ghost use Rattle.amq_cli.specs.Offline.{lists_of, HasLegal, HasRun, HasRunCause, HasText, IsLoadedState, IsReported, HasRunOn, HasDiskCause, is_unwritten};
+ghost use Rattle.amq_cli.specs.Offline.{lists_of, HasLegal, HasRolledBack, HasRun, HasRunCause, HasText, IsLoadedState, IsReported, HasRunOn, HasDiskCause, is_unwritten};
 ghost use Rattle.amq_cli.specs.Playing.{HasPlayed, KeepsFirst};
 ghost use Rattle.amq_cli.specs.Replay.{is_built};
 ghost use Rattle.amq_cli.specs.Statuses.{status_of, status_of_opening};
@@ -42,6 +43,9 @@ pub fn run<D: Disk>(
     ensures crash_safe { IsCrashSafe (D.past result.1) (D.moment result.1) config.user_version (lists_of result.2) }
     ensures durable { result.0 ≡ Status.Ok → IsLastCount (length (history_of result.2.steps.items)) result.2.receipts.items }
     ensures opened { (result.2.receipts.items ≡ []) ⊎ Told (D.past disk) (HasBase config.user_version result.2.base) }
+    ensures blank { result.2.receipts.items ≡ [] → IsBlank (lists_of result.2) }
+    ensures spent { AreSpentAtLast [] result.2.steps.items }
+    ensures rolled { HasRolledBack result.0 result.2.base result.2.steps.items }
     ensures nothing_new { result.2.receipts.items ≡ [] → LeavesNothingNew (D.past disk) (D.past result.1) }
     ensures begins { BeginsBySyncs result.2.receipts.items (D.past disk) (D.past result.1) }
 {
@@ -80,6 +84,8 @@ fn run_on<D: Disk>(
     ensures crash_safe { IsCrashSafe (D.past result.1) (D.moment result.1) engine.config.user_version (lists_of result.2) }
     ensures durable { result.0 ≡ Status.Ok → IsLastCount (length (history_of result.2.steps.items)) result.2.receipts.items }
     ensures receipted { result.2.receipts.items ≢ [] }
+    ensures spent { AreSpentAtLast [] result.2.steps.items }
+    ensures rolled { AreAppended (length (rolled_back result.2.base)) result.2.steps.items }
     ensures goes_on { GoesOn (D.past engine.disk) (D.past result.1) }
     ensures first { KeepsFirst (lists_of engine.chronicle) (lists_of result.2) }
 {

@@ -1,10 +1,13 @@
-use Rattle.std.proofs.Common.{[], sym, subst, rules, inl, inr, ⊎_elim}
+use Rattle.std.proofs.Common.{◌≡◌, List, true, [], length, sym, ap, subst, ◌∙◌, rules, arith, inl, inr, ⊎_elim}
+use Rattle.std.proofs.lemmas.List.{take_all}
+use Rattle.amq_model.specs.declared.history.Step.{Step}
+use Rattle.amq_model.specs.Answers.{history_of}
 use Rattle.amq_model.specs.declared.config.Config.{Config}
-use Rattle.amq_cli.specs.Offline.{lists_of, HasRunOn, HasText, IsLoadedState, IsEnding, HasRunCause}
+use Rattle.amq_cli.specs.Offline.{lists_of, HasRunOn, HasText, IsLoadedState, IsEnding, HasRunCause, is_of_refused}
 use Rattle.amq_cli.specs.declared.status.Status.{Status}
 use Rattle.amq_cli.proofs.Beginning.{begins_run}
 use Rattle.amq_cli.proofs.Recovering.{synced_nothing_new, begins_bare}
-use Rattle.amq_cli.proofs.Running.{begun_played, earlier_text, unopened_text, opening_ends, opening_cause, opens_partly}
+use Rattle.amq_cli.proofs.Running.{begun_played, earlier_text, unopened_text, opening_ends, opening_cause, opening_refused, opens_partly}
 use Rattle.amq_model.specs.Legal.{rolled_back}
 use Rattle.amq_cli.proofs.run.run.Goals as goal
 
@@ -62,3 +65,8 @@ returns-in-Ok-clause-begins g c =
 
 pub returns-in-Err-clause-begins : goal.returns-in-Err-clause-begins
 returns-in-Err-clause-begins g c = c.in-Err.ensures.failed_begins
+
+pub returns-in-Err-clause-rolled : goal.returns-in-Err-clause-rolled
+returns-in-Err-clause-rolled g c =
+    let steps = c.in-Err.field-0.chronicle.steps.items in
+    inr (subst (λ s. is_of_refused s ≡ true) (sym c.status_of_opening.ensures) (opening_refused c.in-Err.field-0.fault), ap (λ (ss : List Step). length (history_of ss)) (take_all (length steps) steps (omega arith)) ∙ c.in-Err.ensures.failed_appended)

@@ -126,3 +126,9 @@ returns-clause-cause g c =
       | in-Err w ↦ subst (λ s. HasDiskCause s was now) (sym (w.status-is ∙ w.status_of_refusal-status.ensures)) (subst (λ d. HasDiskCause (status_of w.in-Err.refusal) was (faults d)) (sym w.disk-is)
           (refusal_cause (Unit {0}) w.in-Err.refusal was was played closed (omega arith) c.close-disk.ensures.later w.in-Err.ensures.cause))
     ]
+
+pub returns-clause-rolled : goal.returns-clause-rolled
+returns-clause-rolled g c = c.close-disk.ensures.chronicle.rolled
+
+pub returns-clause-spent : goal.returns-clause-spent
+returns-clause-spent g c = c.close-disk.ensures.chronicle.spent
