@@ -15,7 +15,9 @@ pub mod HeadlineExamples
 pub mod Keeping
 pub mod KeptExamples
 pub mod Literals
+pub mod LoadCallsExamples
 pub mod Lookups
+pub mod Making
 pub mod Moments
 pub mod OneReading
 pub mod OpenExamples

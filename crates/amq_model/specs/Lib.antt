@@ -1,5 +1,6 @@
 pub mod Name
 pub mod Records
+pub mod InFiles
 pub mod RecordAt
 pub mod Scan
 pub mod Effect
@@ -10,6 +11,7 @@ pub mod Files
 pub mod Calls
 pub mod Crash
 pub mod Leaves
+pub mod LoadCalls
 pub mod Kept
 pub mod Answers
 pub mod Open
