@@ -17,7 +17,7 @@ use Rattle.amq_model.specs.Records.{IsBefore}
 use Rattle.amq_model.specs.Files.{FileName, File, Files}
 use Rattle.amq_model.specs.Calls.{Call, Event, Past, listing, reading, fine}
 use Rattle.amq_model.proofs.Literals.{unequal}
-use Rattle.amq_model.specs.LoadCalls.{calls_of, AreCalls, AreFirstCalls, AreCallsBy, Makes, is_read, names_among, load_calls, AreReadUntil}
+use Rattle.amq_model.specs.LoadCalls.{calls_of, AreCalls, AreFirstCalls, AreCallsBy, Makes, MakesUntil, is_read, names_among, load_calls, AreReadUntil}
 use Rattle.amq_model.specs.InFiles.{IsInFile, IsInOne, EndsBefore, AreInFiles}
 
 -- ---- which files are read
@@ -200,3 +200,23 @@ one_byte_over_another h = by (h refl) where
 
 pub in_two_files_they_are_apart : EndsBefore (file 52 2 ∷ []) (at 1 16) (at 2 16)
 in_two_files_they_are_apart = λ same. absurd (omega (arith, same))
+
+-- ---- calls up to a moment
+
+-- a list, and then a read at the moment 1
+abbrev listed_first : Past
+listed_first = record { start = directory; calls = event (reading one) 1 ∷ event listing 0 ∷ []; moment = 2 }
+
+abbrev nothing_yet : Past
+nothing_yet = record { start = directory; calls = []; moment = 0 }
+
+pub the_list_comes_first : MakesUntil (λ s. AreCalls (listing ∷ [])) 1 (Some nothing_yet) (Some listed_first)
+the_list_comes_first = (
+  listed_first,
+  refl,
+  omega arith,
+  record { events = event listing 0 ∷ []; rest = event (reading one) 1 ∷ []; start = refl; calls = refl; are = refl; behind = All-cons (λ e. 1 ≤ e.before) (event (reading one) 1) [] (omega arith) (All-nil (λ e. 1 ≤ e.before)) },
+)
+
+pub not_of_a_later_moment : MakesUntil (λ s. AreCalls (listing ∷ [])) 3 (Some nothing_yet) (Some listed_first) → ⊥
+not_of_a_later_moment h = let same : listed_first ≡ h.0 = cc in let at : ◌≡◌ {A = ℕ} 2 h.0.moment = ap (λ (p : Past). p.moment) same in omega (arith, at, h.2)

@@ -1,11 +1,12 @@
 -- Calls that were made, one behind the other.
-use Rattle.std.proofs.Common.{◌≡◌, List, [], ◌∷◌, ◌++◌, map, append_assoc, Option, None, Some, refl, sym, ap, subst, ◌∙◌}
-use Rattle.std.specs.Prelude.{reverse, option_map}
+use Rattle.std.proofs.Common.{◌≡◌, ℕ, ◌≤◌, List, [], ◌∷◌, ◌++◌, map, append_assoc, Option, None, Some, refl, sym, ap, subst, ◌∙◌, arith}
+use Rattle.std.specs.Prelude.{reverse, option_map, IfSome}
+use Rattle.std.proofs.lemmas.List.Elements.{All-append, All-weaker}
 use Rattle.std.proofs.lemmas.List.{append-nil, map-append, reverse-append}
 use Rattle.amq_model.specs.Files.{Files}
 use Rattle.amq_model.specs.Calls.{Call, Outcome, Event, Past, noted, passed, content}
-use Rattle.amq_model.specs.Leaves.{Told}
-use Rattle.amq_model.specs.LoadCalls.{calls_of, AreCalls, AreFirstCalls, Makes}
+use Rattle.amq_model.specs.Leaves.{Told, Leaves, IsAt}
+use Rattle.amq_model.specs.LoadCalls.{calls_of, AreCalls, AreFirstCalls, Makes, MakesUntil}
 
 -- ---- lists of calls
 
@@ -90,5 +91,47 @@ module _ (P : Files → List Event → Type 0) where
           start = next.2.start ∙ one.2.start;
           calls = next.2.calls ∙ ap (λ (es : List Event). next.2.events ++ es) one.2.calls ∙ sym (append_assoc next.2.events one.2.events p.calls);
           are = both (content p.start p.calls) (content one.0.start one.0.calls) one.2.events next.2.events one.2.are next.2.are;
+        },
+      )
+
+  -- calls up to a moment, and then whatever others
+  pub made_until : (I E : Files → Files → Type 0) (m : ℕ) (a b c : Option Past) → IfSome b (IsAt m) → Makes P a b → Leaves I E b c → MakesUntil P m a c
+  made_until I E m None b c at one two = let F : Option Past → Type 0 = λ h. Leaves I E h c in subst F one two
+  made_until I E m (Some p) b c at one two =
+      let F : Option Past → Type 0 = λ h. Leaves I E h c in
+      let At : Option Past → Type 0 = λ h. IfSome h (IsAt m) in
+      let two : Leaves I E (Some one.0) c = subst F one.1 two in
+      let at : IsAt m one.0 = subst At one.1 at in
+      let k = two.2.calls in (
+        two.0,
+        two.1,
+        omega (arith, at.now, two.2.later),
+        record {
+          events = one.2.events;
+          rest = k.events;
+          start = k.start ∙ one.2.start;
+          calls = k.calls ∙ ap (λ (es : List Event). k.events ++ es) one.2.calls;
+          are = one.2.are;
+          behind = All-weaker (λ e. one.0.moment ≤ e.before) (λ e. m ≤ e.before) (λ e le. omega (arith, at.now, le)) k.events k.behind;
+        },
+      )
+
+  pub made_until_on : (I E : Files → Files → Type 0) (m : ℕ) (a b c : Option Past) → MakesUntil P m a b → Leaves I E b c → MakesUntil P m a c
+  made_until_on I E m None b c one two = let F : Option Past → Type 0 = λ h. Leaves I E h c in subst F one two
+  made_until_on I E m (Some p) b c one two =
+      let F : Option Past → Type 0 = λ h. Leaves I E h c in
+      let two : Leaves I E (Some one.0) c = subst F one.1 two in
+      let h = one.3 in
+      let k = two.2.calls in (
+        two.0,
+        two.1,
+        omega (arith, one.2, two.2.later),
+        record {
+          events = h.events;
+          rest = k.events ++ h.rest;
+          start = k.start ∙ h.start;
+          calls = k.calls ∙ ap (λ (es : List Event). k.events ++ es) h.calls ∙ sym (append_assoc k.events h.rest (h.events ++ p.calls));
+          are = h.are;
+          behind = All-append (λ e. m ≤ e.before) k.events h.rest (All-weaker (λ e. one.0.moment ≤ e.before) (λ e. m ≤ e.before) (λ e le. omega (arith, one.2, le)) k.events k.behind) h.behind;
         },
       )

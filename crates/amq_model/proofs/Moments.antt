@@ -1,10 +1,11 @@
 -- How the readings of a disk go on from call to call.
-use Rattle.std.proofs.Common.{◌≡◌, ◌⊎◌, inl, inr, ⊎_elim, ℕ, ◌-◌, ◌^◌, ◌<◌, ◌≤◌, List, [], ◌∷◌, Option, None, Some, refl, sym, subst, arith}
+use Rattle.std.proofs.Common.{◌≡◌, ◌⊎◌, inl, inr, ⊎_elim, ℕ, ◌-◌, ◌^◌, ◌<◌, ◌≤◌, List, [], ◌∷◌, ◌++◌, Option, None, Some, refl, sym, ◌∙◌, ap, subst, arith, append_assoc}
 use Rattle.std.specs.Prelude.{option_map, IfSome}
+use Rattle.std.proofs.lemmas.List.Elements.{All-nil, All-cons, All-append, All-weaker}
 use Rattle.amq_model.specs.Files.{Files}
 use Rattle.amq_model.specs.Calls.{Call, Part, Outcome, fine, no_room, broken, Past, Event, done, partly, after, content, counted, IsTimed, noted, passed}
 use Rattle.amq_model.specs.Crash.{settled_since, Next, nothing_since, Reads, ReadsSince}
-use Rattle.amq_model.specs.Leaves.{Goes, Leaves, Within, Exactly, Syncs, SyncsUntil, OnlySyncsUntil, IsAt}
+use Rattle.amq_model.specs.Leaves.{Goes, Leaves, HasFurtherCalls, Within, Exactly, Syncs, SyncsUntil, OnlySyncsUntil, IsAt}
 use Rattle.amq_model.proofs.Fewer.{reads_before}
 
 -- each reading after a call is one that the call may leave
@@ -91,6 +92,7 @@ ends_next call (broken part) told o s next = (next.0, next.2)
 pub one : (call : Call) (outcome : Outcome) (p : Past) → Goes (Within call) (Ends call outcome) p (noted call outcome p)
 one call outcome p = record {
   later = omega arith;
+  calls = record { events = record { call = call; outcome = outcome; before = p.moment } ∷ []; start = refl; calls = refl; behind = All-cons (λ e. p.moment ≤ e.before) _ [] (omega arith) (All-nil (λ e. p.moment ≤ e.before)) };
   told = ends_told call outcome (content p.start p.calls);
   reads = λ s reads. let from = from_before p.start p.calls (record { call = call; outcome = outcome; before = p.moment }) s reads in (from.0, from.1, ends_next call outcome (content p.start p.calls) from.0 s from.2);
   left = λ t s le left. one_left p.start p.calls call outcome p.moment (counted p.moment) t s left;
@@ -102,6 +104,7 @@ one call outcome p = record {
 pub none : (I E : Files → Files → Type 0) (p : Past) → ((s : Files) → E s s) → Goes I E p (passed p)
 none I E p same = record {
   later = omega arith;
+  calls = record { events = []; start = refl; calls = refl; behind = All-nil (λ e. p.moment ≤ e.before) };
   told = same _;
   reads = λ s reads. (s, reads, same s);
   left = λ t s le left. inl (longer p.start p.calls p.moment (counted p.moment) t s le left);
@@ -113,6 +116,7 @@ none I E p same = record {
 pub looser : {I J E F : Files → Files → Type 0} (old new : Past) → ((o s : Files) → I o s → J o s) → ((o s : Files) → E o s → F o s) → Goes I E old new → Goes J F old new
 looser old new inside at_end goes = record {
   later = goes.later;
+  calls = goes.calls;
   told = at_end _ _ goes.told;
   reads = λ s reads. let from = goes.reads s reads in (from.0, from.1, at_end _ _ from.2);
   left = λ t s le left. ⊎_elim (λ before. inl before) (λ from. inr (from.0, from.1, inside _ _ from.2)) (goes.left t s le left);
@@ -120,11 +124,21 @@ looser old new inside at_end goes = record {
   since = goes.since;
 }
 
+-- further calls behind others
+calls_on : (a b c : Past) → a.moment ≤ b.moment → HasFurtherCalls a b → HasFurtherCalls b c → HasFurtherCalls a c
+calls_on a b c later one two = record {
+  events = two.events ++ one.events;
+  start = two.start ∙ one.start;
+  calls = two.calls ∙ ap (λ (es : List Event). two.events ++ es) one.calls ∙ sym (append_assoc two.events one.events a.calls);
+  behind = All-append (λ e. a.moment ≤ e.before) two.events one.events (All-weaker (λ e. b.moment ≤ e.before) (λ e. a.moment ≤ e.before) (λ e le. omega (arith, later, le)) two.events two.behind) one.behind;
+}
+
 -- one run of calls after another
 pub joined : {I J K E F G : Files → Files → Type 0} (a b c : Past) → ((o s : Files) → I o s → K o s) → ((o m s : Files) → E o m → J m s → K o s) → ((o m s : Files) → E o m → F m s → G o s)
     → Goes I E a b → Goes J F b c → Goes K G a c
 joined {K = K} a b c first second ends one two = record {
   later = omega (arith, one.later, two.later);
+  calls = calls_on a b c one.later one.calls two.calls;
   told = ends _ _ _ one.told two.told;
   reads = λ s reads. let m = two.reads s reads in let o = one.reads m.0 m.1 in (o.0, o.1, ends _ _ _ o.2 m.2);
   left = λ t s le left. ⊎_elim
@@ -151,6 +165,7 @@ still I E (Some p) same = (
   refl,
   record {
     later = omega arith;
+    calls = record { events = []; start = refl; calls = refl; behind = All-nil (λ e. p.moment ≤ e.before) };
     told = same _;
     reads = λ s reads. (s, reads, same s);
     left = λ t s le left. inl left;

@@ -7,9 +7,17 @@ use Rattle.amq_model.specs.Crash.{Reads, ReadsSince, MayLeave}
 
 -- ---- what calls leave
 
+-- further calls, none of which was asked for before the moment of old
+pub record HasFurtherCalls (old new : Past) : Type 0 where
+  pub events : List Event
+  pub start : new.start ≡ old.start
+  pub calls : new.calls ≡ events ++ old.calls
+  pub behind : All (λ e. old.moment ≤ e.before) events
+
 -- From old to new: what was left before stays, and whatever else may be left comes from a reading of old by `inside`, in the end by `at_end`, and since the moment of old alone.
 pub record Goes (inside at_end : Files → Files → Type 0) (old new : Past) : Type 0 where
   pub later : old.moment ≤ new.moment
+  pub calls : HasFurtherCalls old new
   pub told : at_end (content old.start old.calls) (content new.start new.calls)
   pub reads : (s : Files) → Reads new.start new.calls s → (o : Files) × Reads old.start old.calls o × at_end o s
   pub left : (t : ℕ) (s : Files) → t ≤ old.moment → ReadsSince new.start new.calls new.moment t s

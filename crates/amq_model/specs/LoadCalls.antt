@@ -1,5 +1,5 @@
 -- Which calls of a disk were made, in their order, and which ones a load of a directory makes.
-use Rattle.std.specs.Prelude.{◌≡◌, ℕ, Bool, ◌&&◌, nat_le, List, [], ◌∷◌, ◌++◌, length, map, filter, reverse, Option, None, Some, Result, Ok, Err}
+use Rattle.std.specs.Prelude.{◌≡◌, ℕ, ◌≤◌, Bool, ◌&&◌, nat_le, List, [], ◌∷◌, ◌++◌, length, map, filter, reverse, Option, None, Some, Result, Ok, Err, All}
 use Rattle.std.specs.FinMap as finite
 use Rattle.amq_model.specs.declared.directory.DirFault.{DirFault}
 use Rattle.amq_model.specs.declared.directory.DirFault.TheVariants.{TooLong, Version, UserVersion, TwoFiles}
@@ -37,6 +37,20 @@ pub record HasMade (P : Files → List Event → Type 0) (old new : Past) : Type
 abbrev pub Makes : (Files → List Event → Type 0) → Option Past → Option Past → Type 0
 Makes P None new = new ≡ None
 Makes P (Some old) new = (p : Past) × (new ≡ Some p) × HasMade P old p
+
+-- Further calls that stand so to what the disk read before them, and then others, none of which was asked for before the moment m.
+pub record HasMadeUntil (P : Files → List Event → Type 0) (m : ℕ) (old new : Past) : Type 0 where
+  pub events : List Event
+  pub rest : List Event
+  pub start : new.start ≡ old.start
+  pub calls : new.calls ≡ rest ++ (events ++ old.calls)
+  pub are : P (content old.start old.calls) events
+  pub behind : All (λ e. m ≤ e.before) rest
+
+-- the same of a disk that may tell no content
+abbrev pub MakesUntil : (Files → List Event → Type 0) → ℕ → Option Past → Option Past → Type 0
+MakesUntil P m None new = new ≡ None
+MakesUntil P m (Some old) new = (p : Past) × (new ≡ Some p) × (m ≤ p.moment) × HasMadeUntil P m old p
 
 -- ---- a load
 
