@@ -10,5 +10,7 @@ mod Found
 mod Tallies
 mod OneFile
 mod Meanings
+pub mod Asking
+pub mod InOrder
 mod Examples
 mod BaseExamples

@@ -5,12 +5,16 @@ use Rattle.std.proofs.lemmas.List.{take_more}
 use Rattle.std.proofs.lemmas.List.Elements.{All-nil, All-push, All-get_or, All-weaker}
 use Rattle.amq_model.specs.declared.directory.DataFile.{DataFile}
 use Rattle.amq_model.specs.Files.{FileName, File, Files}
-use Rattle.amq_model.specs.Calls.{Past, syncing, fine, noted}
+use Rattle.amq_model.specs.Calls.{Call, Past, syncing, fine, noted}
 use Rattle.amq_model.specs.Leaves.{Leaves, IsSyncedFile, Syncs, HasSettledNames, AllAgree, IsSettled, Told, IsThere}
 use Rattle.amq_model.proofs.Settling.{syncs_itself, sync_settles_listed, settled_synced}
 use Rattle.amq_model.proofs.Moments.{still}
 use Rattle.amq_model.proofs.Chain.{told_then}
 use Rattle.amq_loader.specs.Bases.{AreThere}
+
+-- the sync of a data file
+abbrev pub sync_of : DataFile → Call
+sync_of f = syncing f.name
 
 -- each of these files has one content, all of it durable
 abbrev pub AllSettled : Option Past → List DataFile → Type 0

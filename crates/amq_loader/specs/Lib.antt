@@ -3,3 +3,4 @@ pub mod Faults
 pub mod Causes
 pub mod Parts
 pub mod Bases
+pub mod Asked

@@ -7,7 +7,10 @@ ghost use Rattle.amq_model.specs.Effect.{result_of};
 ghost use Rattle.amq_model.specs.Ids.{live_numbers};
 ghost use Rattle.amq_model.specs.Open.{open_txs, highest_of};
 ghost use Rattle.amq_model.specs.Leaves.{Leaves, Unchanged, OnlyAsks, HasSettledNames, AllAgree, IsListedSame, Told, IsThere};
+ghost use Rattle.amq_model.specs.LoadCalls.{Makes};
+ghost use Rattle.amq_model.specs.InFiles.{AreInFiles};
 ghost use Rattle.amq_io.specs.Listed.{IsListed};
+ghost use Rattle.amq_loader.specs.Asked.{HasLoadCalls, HasListCall, HasReads, HasRead, sizes};
 ghost use Rattle.amq_loader.specs.Loads.{is_leftover, IsLoad, IsLoadOf, IsStateOf};
 ghost use Rattle.amq_loader.specs.Faults.{HasLoadFault};
 ghost use Rattle.amq_loader.specs.Causes.{HasCauseBy};
@@ -30,9 +33,11 @@ const HEADER_LEN: u64 = 16;
 /// It only lists the directory and reads its data files, each once.
 pub fn load<D: Disk>(alloc: Global, disk: &mut D, user_version: u32) -> Result<Loaded, LoadFault>
     ensures every { IfOk result (IsLoad user_version) }
+    ensures base_in_order { IfOk result (λ l. AreInFiles l.files l.base) }
     ensures told { IfOk result (λ l. Told (D.past disk.old) (IsLoadOf user_version l)) }
     ensures cause { HasLoadFault user_version result (D.past disk.old) (D.faults disk.old) (D.faults disk.new) }
     ensures asks { OnlyAsks (D.past disk.old) (D.past disk.new) }
+    ensures calls { Makes (HasLoadCalls result) (D.past disk.old) (D.past disk.new) }
     ensures only_asks { Leaves Unchanged Unchanged (D.past disk.old) (D.past disk.new) }
     ensures settled { OnOk result (HasSettledNames (D.past disk.new)) }
     ensures listed { OnOk result (AllAgree (D.past disk.new) IsListedSame) }
@@ -54,6 +59,7 @@ pub fn load_state<D: Disk>(
     ensures told { IfOk result (λ state. Told (D.past disk.old) (IsStateOf user_version state)) }
     ensures cause { HasLoadFault user_version result (D.past disk.old) (D.faults disk.old) (D.faults disk.new) }
     ensures asks { OnlyAsks (D.past disk.old) (D.past disk.new) }
+    ensures calls { Makes (HasLoadCalls result) (D.past disk.old) (D.past disk.new) }
     ensures only_asks { Leaves Unchanged Unchanged (D.past disk.old) (D.past disk.new) }
     ensures later { D.moment disk.old ≤ D.moment disk.new }
 {
@@ -109,6 +115,7 @@ fn list_files<D: Disk>(disk: &mut D) -> Result<Vec<FileInfo>, LoadFault>
     ensures listed { IfOk result (λ infos. Told (D.past disk.old) (IsListed infos.items)) }
     ensures cause { HasCauseBy (λ _. ⊥) (Told (D.past disk.old) (IsThere control_name)) result (D.faults disk.old) (D.faults disk.new) }
     ensures asks { OnlyAsks (D.past disk.old) (D.past disk.new) }
+    ensures calls { Makes (HasListCall result) (D.past disk.old) (D.past disk.new) }
     ensures only_asks { Leaves Unchanged Unchanged (D.past disk.old) (D.past disk.new) }
     ensures settled { OnOk result (HasSettledNames (D.past disk.new)) }
     ensures same { OnOk result (AllAgree (D.past disk.new) IsListedSame) }
@@ -132,6 +139,7 @@ fn read_directory<D: Disk>(
     ensures loaded { IfOk result (λ parts. AreLoaded user_version (map (λ i. i.name) infos.now) (D.past disk.old) parts.items) }
     ensures cause { HasCauseBy (λ found. Told (D.past disk.old) (IsFault user_version found)) ⊥ result (D.faults disk.old) (D.faults disk.new) }
     ensures asks { OnlyAsks (D.past disk.old) (D.past disk.new) }
+    ensures calls { Makes (HasReads result (sizes infos.now)) (D.past disk.old) (D.past disk.new) }
     ensures only_asks { Leaves Unchanged Unchanged (D.past disk.old) (D.past disk.new) }
     ensures later { D.moment disk.old ≤ D.moment disk.new }
 {
@@ -152,6 +160,7 @@ fn read_files<D: Disk>(
     ensures found { IfOk result (λ parts. AreFound user_version (map (λ i. i.name) infos.now) (D.past disk.old) parts.items) }
     ensures cause { HasCauseBy (λ found. Told (D.past disk.old) (IsFirstFault user_version found)) ⊥ result (D.faults disk.old) (D.faults disk.new) }
     ensures asks { OnlyAsks (D.past disk.old) (D.past disk.new) }
+    ensures calls { Makes (HasReads result (sizes infos.now)) (D.past disk.old) (D.past disk.new) }
     ensures only_asks { Leaves Unchanged Unchanged (D.past disk.old) (D.past disk.new) }
     ensures later { D.moment disk.old ≤ D.moment disk.new }
 {
@@ -186,6 +195,7 @@ fn read_file<D: Disk>(
     ensures found { IfOk result (IsFoundIn user_version info.now.name (D.past disk.old)) }
     ensures cause { HasCauseBy (λ found. Told (D.past disk.old) (IsFaultIn user_version info.now.name found)) ⊥ result (D.faults disk.old) (D.faults disk.new) }
     ensures asks { OnlyAsks (D.past disk.old) (D.past disk.new) }
+    ensures calls { Makes (HasRead result info.now.name info.now.len) (D.past disk.old) (D.past disk.new) }
     ensures only_asks { Leaves Unchanged Unchanged (D.past disk.old) (D.past disk.new) }
     ensures later { D.moment disk.old ≤ D.moment disk.new }
 {

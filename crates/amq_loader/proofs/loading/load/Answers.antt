@@ -7,6 +7,11 @@ use Rattle.amq_io.specs.Listed.{IsListed}
 use Rattle.amq_loader.specs.declared.part.Part.{Part}
 use Rattle.amq_loader.specs.Loads.{is_leftover}
 use Rattle.amq_loader.specs.Parts.{IsFault, AreLoaded, highest_in}
+use Rattle.amq_model.specs.LoadCalls.{Makes}
+use Rattle.amq_loader.specs.Asked.{HasReads, sizes}
+use Rattle.amq_loader.specs.declared.faults.LoadFault.TheVariants.{NoMemory as without_memory}
+use Rattle.amq_loader.proofs.Asking.{AreReads, load_unlisted, load_failed, load_cut_off, load_done}
+use Rattle.amq_loader.proofs.InOrder.{load_in_order}
 use Rattle.amq_loader.proofs.Chain.{asks_on, asked_on, told_on, told_back, settled_on, listed_on}
 use Rattle.amq_loader.proofs.Meanings.{AreTaken, is_load, told_load, told_faulty, load_fault_err, loaded_back}
 use Rattle.amq_loader.proofs.loading.load.Goals as goal
@@ -101,3 +106,30 @@ returns-clause-settled g c = settled_on (g.D.Disk.past c.list_files.new.disk) (g
 
 pub returns-clause-listed : goal.returns-clause-listed
 returns-clause-listed g c = listed_on (g.D.Disk.past c.list_files.new.disk) (g.D.Disk.past c.read_directory.new.disk) c.in_ok-infos.ensures.same c.read_directory.ensures.only_asks
+
+pub returns-in_err-infos-clause-calls : goal.returns-in_err-infos-clause-calls
+returns-in_err-infos-clause-calls g c =
+    let is : c.from_residual.result ≡ Err c.in_err-infos.field-0.0 = search rules in
+    load_unlisted (Vec FileInfo Global) _ c.in_err-infos.field-0.0 c.from_residual.result (g.D.Disk.past c.args.disk.now) (g.D.Disk.past c.list_files.new.disk) is c.in_err-infos.ensures.calls
+
+pub returns-in_err-parts-clause-calls : goal.returns-in_err-parts-clause-calls
+returns-in_err-parts-clause-calls g c =
+    let infos = c.in_ok-infos.infos.items in
+    let e = c.in_err-parts.field-0.0 in
+    let is : c.from_residual-in_err-parts.result ≡ Err e = search rules in
+    load_failed (Vec Part Global) _ infos e c.from_residual-in_err-parts.result (g.D.Disk.past c.args.disk.now) (g.D.Disk.past c.list_files.new.disk) (g.D.Disk.past c.read_directory.new.disk) is c.in_ok-infos.ensures.listed c.in_ok-infos.ensures.calls
+    (subst (λ (l : List FileInfo). Makes (HasReads {T = Vec Part Global} (Err e) (sizes l)) (g.D.Disk.past c.list_files.new.disk) (g.D.Disk.past c.read_directory.new.disk)) c.deref.ensures.value c.in_err-parts.ensures.calls)
+
+pub returns-in_err-loaded-clause-calls : goal.returns-in_err-loaded-clause-calls
+returns-in_err-loaded-clause-calls g c =
+    let is : c.from_residual-in_err-loaded.result ≡ Err without_memory = search rules in
+    load_cut_off _ c.in_ok-infos.infos.items c.from_residual-in_err-loaded.result (g.D.Disk.past c.args.disk.now) (g.D.Disk.past c.list_files.new.disk) (g.D.Disk.past c.read_directory.new.disk) is c.in_ok-infos.ensures.listed c.in_ok-infos.ensures.calls
+    (subst (λ (l : List FileInfo). Makes (AreReads (sizes l)) (g.D.Disk.past c.list_files.new.disk) (g.D.Disk.past c.read_directory.new.disk)) c.deref.ensures.value c.in_ok-parts.ensures.calls)
+
+pub returns-clause-calls : goal.returns-clause-calls
+returns-clause-calls g c =
+    load_done c.in_ok-infos.infos.items (g.D.Disk.past c.args.disk.now) (g.D.Disk.past c.list_files.new.disk) (g.D.Disk.past c.read_directory.new.disk) c.in_ok-infos.ensures.listed c.in_ok-infos.ensures.calls
+    (subst (λ (l : List FileInfo). Makes (AreReads (sizes l)) (g.D.Disk.past c.list_files.new.disk) (g.D.Disk.past c.read_directory.new.disk)) c.deref.ensures.value c.in_ok-parts.ensures.calls)
+
+pub returns-clause-base_in_order : goal.returns-clause-base_in_order
+returns-clause-base_in_order g c = load_in_order c.args.user_version c.in_ok-loaded.field-0 (returns-clause-every g c)
