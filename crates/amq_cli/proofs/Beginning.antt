@@ -1,13 +1,14 @@
 -- The first receipt of a run stays, and up to it the disk was only asked and synced.
 use Rattle.std.proofs.Common.{◌≡◌, ℕ, Bool, List, [], Option, Some, sym, ap, subst}
 use Rattle.amq_model.specs.Calls.{Past}
-use Rattle.amq_model.specs.Leaves.{Leaves, Syncs}
+use Rattle.amq_model.specs.Leaves.{Syncs}
 use Rattle.amq_model.proofs.Moments.{still}
 use Rattle.amq_model.proofs.Settling.{syncs_itself}
 use Rattle.amq_engine.specs.declared.chronicle.Receipted.{Receipted}
 use Rattle.amq_engine.specs.Lists.{Lists}
 use Rattle.amq_engine.specs.Receipts.{GoesOn, BeginsBySyncs, IsLastCount}
 use Rattle.amq_engine.specs.Engine.{receipted}
+use Rattle.amq_engine.proofs.OpeningCalls.{no_calls}
 use Rattle.amq_engine.proofs.Beginning.{starts_receipted, begins_through}
 use Rattle.amq_cli.specs.Playing.{KeepsFirst}
 use Rattle.amq_cli.proofs.Recovering.{last_some}
@@ -29,11 +30,11 @@ first_receipted b count moment old new is r starts = starts_receipted r b count 
 
 -- no call was made, and nothing noted
 pub begins_still : (past : Option Past) → BeginsBySyncs [] past past
-begins_still past = still Syncs Syncs past syncs_itself
+begins_still past = (still Syncs Syncs past syncs_itself, no_calls past)
 
--- there is no receipt, and only syncs were made
-pub nothing_begins : (a b : Option Past) (rs : List Receipted) → rs ≡ [] → Leaves Syncs Syncs a b → BeginsBySyncs rs a b
-nothing_begins a b rs none syncs = subst (λ (rs : List Receipted). BeginsBySyncs rs a b) (sym none) syncs
+-- there is no receipt
+pub nothing_begins : (a b : Option Past) (rs : List Receipted) → rs ≡ [] → BeginsBySyncs [] a b → BeginsBySyncs rs a b
+nothing_begins a b rs none begins = subst (λ (rs : List Receipted). BeginsBySyncs rs a b) (sym none) begins
 
 -- behind an opening that answered Ok
 pub begins_run : (count : ℕ) (old new : Lists) (a b d : Option Past) → IsLastCount count old.receipts → BeginsBySyncs old.receipts a b → new.base ≡ old.base → KeepsFirst old new → GoesOn b d → BeginsBySyncs new.receipts a d

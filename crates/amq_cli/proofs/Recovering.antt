@@ -68,7 +68,7 @@ image_before (Some o) (Some f) (Some bytes) synced is = record {
 
 -- without a receipt there were only syncs
 pub begins_bare : (a b : Option Past) (rs : List Receipted) → rs ≡ [] → BeginsBySyncs rs a b → Leaves Syncs Syncs a b
-begins_bare a b rs none begins = subst (λ (rs : List Receipted). BeginsBySyncs rs a b) none begins
+begins_bare a b rs none begins = let bare : BeginsBySyncs [] a b = subst (λ (rs : List Receipted). BeginsBySyncs rs a b) none begins in bare.0
 
 -- calls that leave nothing but syncs leave nothing new
 pub synced_nothing_new : (a b : Option Past) → Leaves Syncs Syncs a b → LeavesNothingNew a b

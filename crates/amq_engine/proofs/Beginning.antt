@@ -8,7 +8,7 @@ use Rattle.amq_engine.specs.declared.tail.Tail.{Tail}
 use Rattle.amq_engine.specs.Lists.{Lists, with_step}
 use Rattle.amq_engine.specs.Receipts.{GoesOn, BeginsBySyncs, StartsWith}
 use Rattle.amq_engine.specs.Engine.{IsBlank, receipted, Waits, Wrote}
-use Rattle.amq_engine.proofs.GoingOn.{syncs_on}
+use Rattle.amq_engine.proofs.GoingOn.{begins_on}
 
 module _ (r : Receipted) where
   -- the lists are the same
@@ -53,4 +53,4 @@ begins_through (Some l) None a b d some begins same first goes = tt
 begins_through (Some l) (Some m) a b d some begins same first goes = by l.receipts refl begins where
   by : (rs : List Receipted) → l.receipts ≡ rs → BeginsBySyncs rs a b → BeginsBySyncs m.receipts a d
   by [] e begins = absurd (some e)
-  by (r ∷ rs) e begins = let starts = first r (rs, e) in subst (λ (qs : List Receipted). BeginsBySyncs qs a d) (sym starts.1) (syncs_on r.moment a b d begins goes)
+  by (r ∷ rs) e begins = let starts = first r (rs, e) in subst (λ (qs : List Receipted). BeginsBySyncs qs a d) (sym starts.1) (begins_on r rs starts.0 a b d begins goes)

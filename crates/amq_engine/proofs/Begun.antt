@@ -16,7 +16,9 @@ use Rattle.amq_model.specs.Legal.{rolled_back}
 use Rattle.amq_model.specs.Headline.{RecoversSince}
 use Rattle.amq_model.specs.Leaves.{Told, Leaves, Syncs, AllReads, HoldsSince, IsAt}
 use Rattle.amq_model.proofs.Chain.{told_then}
+use Rattle.amq_model.specs.LoadCalls.{Makes}
 use Rattle.amq_model.proofs.Moments.{syncs_until}
+use Rattle.amq_model.proofs.Making.{made_until}
 use Rattle.amq_model.proofs.Keeping.{reads_on, reads_weaker, holds_now, kept_from}
 use Rattle.amq_buffer.specs.Buffered.{Buffered}
 use Rattle.amq_header.specs.Classes.{data_name, temporary_name}
@@ -39,7 +41,7 @@ use Rattle.amq_engine.specs.Lists.{Lists, with_base, with_receipt}
 use Rattle.amq_engine.specs.Directory.{Stands, StandsNow, AreListed, HasName, named_file, all_files, files_from}
 use Rattle.amq_engine.specs.Engine.{rolling, Holds, IsValid, AreKept, IsTold, IsBlank, open_fault}
 use Rattle.amq_engine.specs.Opening.{HasNumbers, HasOpenCause, AreLeft, AreFirstRollbacks, rollbacks_behind}
-use Rattle.amq_engine.specs.Receipts.{AreInOrder, IsLastCount, IsCrashSafe, Anything, GoesOn, BeginsBySyncs}
+use Rattle.amq_engine.specs.Receipts.{AreInOrder, IsLastCount, IsCrashSafe, Anything, GoesOn, AreOpeningCalls, BeginsBySyncs}
 use Rattle.amq_engine.proofs.Tidying.{tidy_made}
 use Rattle.amq_engine.proofs.Receipts.{if_some}
 use Rattle.amq_engine.proofs.Recovering.{told_safe}
@@ -321,8 +323,8 @@ module _ (base : List Placed) (m : ℕ) (lists : Option Lists) (notes : IfSome l
       by None had l none = tt
       by (Some p) had l none = record { files = files; before = before; had = had; placed = subst (λ (ss : List Step). history_of ss ≡ take (length ss) (rollbacks_behind config (before + 1) 16 (rolled_back l.base))) (sym none) refl }
 
-  pub noted_begins : (a b d : Option Past) → IfSome b (IsAt m) → Leaves Syncs Syncs a b → GoesOn b d → IfSome lists (λ l. BeginsBySyncs l.receipts a d)
-  noted_begins a b d at syncs goes = if_some (IsNoted base m) (λ l. BeginsBySyncs l.receipts a d) lists (λ l n. subst (λ (rs : List Receipted). BeginsBySyncs rs a d) (sym n.receipts) (syncs_until Anything Anything m a b d at syncs goes)) notes
+  pub noted_begins : (a b d : Option Past) → IfSome b (IsAt m) → Leaves Syncs Syncs a b → Makes AreOpeningCalls a b → GoesOn b d → IfSome lists (λ l. BeginsBySyncs l.receipts a d)
+  noted_begins a b d at syncs calls goes = if_some (IsNoted base m) (λ l. BeginsBySyncs l.receipts a d) lists (λ l n. subst (λ (rs : List Receipted). BeginsBySyncs rs a d) (sym n.receipts) (syncs_until Anything Anything m a b d at syncs goes, made_until AreOpeningCalls Anything Anything m a b d at calls goes)) notes
 
 -- the new file has the number behind the greatest one, of what is told
 pub told_begun : (files highest id count : ℕ) (h : Option Past) → id ≡ highest + 1 → count ≡ files → highest < 2 ^ 31 - 1 → Told h (HasNumbers files highest) → Told h (λ s. (before : ℕ) × HasNumbers count before s × (id ≡ before + 1) × (before < 2 ^ 31 - 1))

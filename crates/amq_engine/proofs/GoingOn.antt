@@ -5,8 +5,9 @@ use Rattle.amq_model.specs.Files.{Files}
 use Rattle.amq_model.specs.Leaves.{Leaves, OnlySyncsUntil}
 use Rattle.amq_model.proofs.Chain.{loosely}
 use Rattle.amq_model.proofs.Moments.{still, go_on, syncs_until_on}
+use Rattle.amq_model.proofs.Making.{made_until_on}
 use Rattle.amq_engine.specs.declared.chronicle.Receipted.{Receipted}
-use Rattle.amq_engine.specs.Receipts.{Anything, GoesOn, BeginsBySyncs}
+use Rattle.amq_engine.specs.Receipts.{Anything, GoesOn, AreOpeningCalls, BeginsBySyncs}
 
 -- nothing was called
 pub goes_still : (a : Option Past) → GoesOn a a
@@ -30,7 +31,7 @@ syncs_on m a b c syncs goes = syncs_until_on Anything Anything m a b c syncs goe
 
 -- the same up to the first receipt, whatever receipts come behind it
 pub begins_on : (r : Receipted) (rs more : List Receipted) (a b c : Option Past) → BeginsBySyncs (r ∷ rs) a b → GoesOn b c → BeginsBySyncs (r ∷ more) a c
-begins_on r rs more a b c begins goes = syncs_on r.moment a b c begins goes
+begins_on r rs more a b c begins goes = (syncs_on r.moment a b c begins.0 goes, made_until_on AreOpeningCalls Anything Anything r.moment a b c begins.1 goes)
 
 -- there is a receipt, and further ones
 pub begins_more : (rs more : List Receipted) (a b c : Option Past) → (rs ≡ [] → ⊥) → BeginsBySyncs rs a b → GoesOn b c → BeginsBySyncs (rs ++ more) a c

@@ -13,6 +13,7 @@ pub mod Stages
 pub mod Going
 pub mod GoingOn
 pub mod Tidying
+pub mod OpeningCalls
 pub mod Beginning
 pub mod Flushing
 pub mod Commanding

@@ -1,6 +1,6 @@
 -- What an opening finds and leaves, of literal directories and chronicles.
-use Rattle.std.proofs.Common.{◌≡◌, ◌⊎◌, inl, inr, ℕ, ◌+◌, ◌-◌, ◌^◌, ◌≤◌, Bool, true, false, cond, List, [], ◌∷◌, length, None, Some, option_map, codes, refl, sym, ap, subst, ◌∙◌, arith}
-use Rattle.std.specs.Prelude.{fold}
+use Rattle.std.proofs.Common.{◌≡◌, ◌⊎◌, inl, inr, ℕ, ◌+◌, ◌-◌, ◌^◌, ◌≤◌, Bool, true, false, cond, List, [], ◌∷◌, ◌++◌, length, None, Some, option_map, codes, refl, sym, ap, subst, ◌∙◌, arith}
+use Rattle.std.specs.Prelude.{fold, map}
 use Rattle.std.specs.FinMap as finite
 use Rattle.std.specs.Ordering.{eq_by_cmp, nat_cmp}
 use Rattle.std.specs.Cmp.Lexicographic.{slice_cmp}
@@ -18,7 +18,10 @@ use Rattle.amq_model.specs.declared.record.Record.TheVariants as r
 use Rattle.amq_model.specs.declared.refusal.DiskCall.TheVariants.{Read, Sync}
 use Rattle.amq_model.specs.declared.refusal.Refusal.TheVariants.{FileIdsSpent}
 use Rattle.amq_model.specs.Names.{control_name}
-use Rattle.amq_model.specs.Directory.{Listing, IsRead, IsJoined, data_files, fault}
+use Rattle.amq_model.specs.Calls.{Call, Event, listing as listing_call, reading as reading_call, syncing, removing, fine}
+use Rattle.amq_model.specs.LoadCalls.{calls_of, names_among, load_calls}
+use Rattle.amq_engine.specs.Receipts.{AreOpeningCalls}
+use Rattle.amq_model.specs.Directory.{FileOf, Listing, IsRead, IsJoined, data_files, fault}
 use Rattle.amq_model.specs.Legal.{IsOpeningStep}
 use Rattle.amq_model.specs.Files.{FileName, File, Files, Image, IsReading}
 use Rattle.amq_model.proofs.Literals.{unequal}
@@ -80,6 +83,26 @@ no_data n highest h = (from_image h.image h.reading (λ l. n ≡ length (data_fi
 
 pub not_without_a_number : HasNumbers 0 0 files → ⊥
 not_without_a_number h = unequal 0 7 tt (no_data 0 0 h).1
+
+-- ---- calls up to the first receipt
+
+abbrev event : Call → ℕ → Event
+event call before = record { call = call; outcome = fine; before = before }
+
+one_list : load_calls files ≡ listing_call ∷ []
+one_list = ap (λ (es : List (FileName × File)). listing_call ∷ map reading_call (names_among (map (λ (e : FileName × File). (e.0, length e.1.bytes)) es))) (finite.entries-from_sorted (slice_cmp nat_cmp) ((codes "activemq-data-7.amq.tmp", record { bytes = []; pending = [] }) ∷ []) tt)
+
+-- without a data file the list is the one call
+pub the_list_alone : AreOpeningCalls files (event listing_call 0 ∷ [])
+the_list_alone = (image, reads, of_image (λ l. calls_of (event listing_call 0 ∷ []) ≡ load_calls files ++ map (λ (f : FileOf). syncing f.name) (data_files l None)) (sym (ap (λ (cs : List Call). cs ++ []) one_list)))
+
+-- the temporary file is removed behind the receipt
+pub not_a_removal : AreOpeningCalls files (event (removing (codes "activemq-data-7.amq.tmp")) 1 ∷ event listing_call 0 ∷ []) → ⊥
+not_a_removal h =
+    let made : List Event = event (removing (codes "activemq-data-7.amq.tmp")) 1 ∷ event listing_call 0 ∷ [] in
+    let is : calls_of made ≡ load_calls files ++ [] = from_image h.0 h.1 (λ l. calls_of made ≡ load_calls files ++ map (λ (f : FileOf). syncing f.name) (data_files l None)) h.2 in
+    let many : ◌≡◌ {A = ℕ} 2 1 = ap (λ (cs : List Call). length cs) (is ∙ ap (λ (cs : List Call). cs ++ []) one_list) in
+    omega (arith, many)
 
 -- ---- rollbacks
 

@@ -1,10 +1,13 @@
 -- The receipts of a chronicle: how they follow each other, and what a crash leaves since each.
-use Rattle.std.specs.Prelude.{◌≡◌, ℕ, ◌+◌, ◌-◌, ◌^◌, ◌<◌, ◌≤◌, List, [], ◌∷◌, length, Option, All}
+use Rattle.std.specs.Prelude.{◌≡◌, ◌⊎◌, ℕ, ◌+◌, ◌-◌, ◌^◌, ◌<◌, ◌≤◌, List, [], ◌∷◌, ◌++◌, length, map, Option, None, All}
+use Rattle.std.specs.FinMap as finite
 use Rattle.amq_model.specs.Answers.{history_of}
-use Rattle.amq_model.specs.Calls.{Past}
-use Rattle.amq_model.specs.Files.{Files}
+use Rattle.amq_model.specs.Calls.{Call, Event, Past, syncing}
+use Rattle.amq_model.specs.Directory.{data_files}
+use Rattle.amq_model.specs.Files.{Files, Image, IsReading}
 use Rattle.amq_model.specs.Headline.{RecoversSince}
 use Rattle.amq_model.specs.Leaves.{Leaves, Syncs, OnlySyncsUntil}
+use Rattle.amq_model.specs.LoadCalls.{AreCalls, AreFirstCalls, Makes, MakesUntil, load_calls}
 use Rattle.amq_engine.specs.declared.chronicle.Receipted.{Receipted}
 use Rattle.amq_engine.specs.Lists.{Lists}
 
@@ -56,7 +59,19 @@ GoesOn old new = Leaves Anything Anything old new
 abbrev pub StartsWith : Receipted → Lists → Type 0
 StartsWith r l = (rs : List Receipted) × (l.receipts ≡ r ∷ rs)
 
--- Up to the first receipt, or to the end where there is none, the disk was only asked and synced.
+-- the calls of an opening up to its first receipt: those of a load, and then one sync for each data file, in the order of their ids
+abbrev pub opening_calls : Files → Image → List Call
+opening_calls s image = load_calls s ++ map (λ f. syncing f.name) (data_files (finite.entries image) None)
+
+-- all of them were made
+abbrev pub AreOpeningCalls : Files → List Event → Type 0
+AreOpeningCalls s events = (image : Image) × IsReading s image × AreCalls (opening_calls s image) events
+
+-- the first of them were made
+abbrev pub AreFirstOpeningCalls : Files → List Event → Type 0
+AreFirstOpeningCalls s events = AreFirstCalls (load_calls s) events ⊎ ((image : Image) × IsReading s image × AreFirstCalls (opening_calls s image) events)
+
+-- Up to the first receipt these calls were made and no other, or the first of them to the end where there is no receipt; what they leave comes from syncs alone.
 abbrev pub BeginsBySyncs : List Receipted → Option Past → Option Past → Type 0
-BeginsBySyncs [] old new = Leaves Syncs Syncs old new
-BeginsBySyncs (r ∷ rs) old new = OnlySyncsUntil r.moment old new
+BeginsBySyncs [] old new = Leaves Syncs Syncs old new × Makes AreFirstOpeningCalls old new
+BeginsBySyncs (r ∷ rs) old new = OnlySyncsUntil r.moment old new × MakesUntil AreOpeningCalls r.moment old new

@@ -5,6 +5,7 @@ ghost use Rattle.amq_model.specs.Configs.{IsConfig};
 ghost use Rattle.amq_model.specs.Effect.{result_of};
 ghost use Rattle.amq_model.specs.Legal.{rolled_back};
 ghost use Rattle.amq_model.specs.Leaves.{Leaves, Syncs, AllReads, Told, HoldsSince};
+ghost use Rattle.amq_model.specs.LoadCalls.{Makes};
 ghost use Rattle.amq_io.specs.Faults.{HasFault};
 ghost use Rattle.amq_buffer.specs.Buffered.{Buffered};
 ghost use Rattle.amq_tx.specs.Follows.{Follows};
@@ -14,7 +15,7 @@ ghost use Rattle.amq_loader.specs.Loads.{IsLoad, IsLoadOf, IsStateOf, IsTidy};
 ghost use Rattle.amq_loader.specs.Bases.{IsBase};
 ghost use Rattle.amq_engine.specs.Directory.{Stands};
 ghost use Rattle.amq_engine.specs.Lists.{Lists, with_base, with_receipt};
-ghost use Rattle.amq_engine.specs.Receipts.{IsCrashSafe, GoesOn, BeginsBySyncs};
+ghost use Rattle.amq_engine.specs.Receipts.{IsCrashSafe, GoesOn, AreOpeningCalls, AreFirstOpeningCalls, BeginsBySyncs};
 ghost use Rattle.amq_engine.specs.Engine.{rolling, IsValid, IsBlank, Holds, open_fault};
 ghost use Rattle.amq_engine.specs.Opening.{HasBase, HasNumbers, AreFirstRollbacks, HasOpenCause, load_fault, AreLeft};
 
@@ -74,6 +75,8 @@ fn load_durably<D: Disk>(alloc: Global, disk: &mut D, config: &Config) -> Result
     ensures base { IfOk result (λ l. IsBase (D.past disk.new) config.now.user_version l.highest_file l.base) }
     ensures unspent { IfOk result (λ l. l.highest_file < 2 ^ 31 - 1) }
     ensures left { IfOk result (λ l. Told (D.past disk.new) (AreLeft l.leftovers)) }
+    ensures calls { OnOk result (Makes AreOpeningCalls (D.past disk.old) (D.past disk.new)) }
+    ensures first_calls { Makes AreFirstOpeningCalls (D.past disk.old) (D.past disk.new) }
     ensures crash { Leaves Syncs Syncs (D.past disk.old) (D.past disk.new) }
     ensures cause { IfErr result (λ fault. (lists : Option Lists) → IfSome lists IsBlank → HasOpenCause config.now fault lists (D.past disk.old) (D.past disk.new) (D.faults disk.old) (D.faults disk.new)) }
     ensures faults { OnOk result ((D.faults disk.new).1 ≡ (D.faults disk.old).1) }
@@ -208,6 +211,8 @@ fn find<D: Disk>(alloc: Global, disk: &mut D, config: &Config) -> Result<Found, 
     ensures rollbacks { IfOk result (λ f. f.rollbacks.items ≡ rolled_back f.loaded.base) }
     ensures state { IfOk result (λ f. f.loaded.state ≡ result_of f.loaded.base) }
     ensures loaded { IfOk result (λ f. Told (D.past disk.old) (IsStateOf config.now.user_version f.loaded.state)) }
+    ensures calls { OnOk result (Makes AreOpeningCalls (D.past disk.old) (D.past disk.new)) }
+    ensures first_calls { Makes AreFirstOpeningCalls (D.past disk.old) (D.past disk.new) }
     ensures crash { Leaves Syncs Syncs (D.past disk.old) (D.past disk.new) }
     ensures cause { IfErr result (λ fault. (lists : Option Lists) → IfSome lists IsBlank → HasOpenCause config.now fault lists (D.past disk.old) (D.past disk.new) (D.faults disk.old) (D.faults disk.new)) }
     ensures faults { OnOk result ((D.faults disk.new).1 ≡ (D.faults disk.old).1) }

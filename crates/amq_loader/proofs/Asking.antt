@@ -12,7 +12,7 @@ use Rattle.amq_model.specs.Names.{is_data}
 use Rattle.amq_model.specs.Directory.{FileOf, file_of, fault_of}
 use Rattle.amq_model.specs.Calls.{Call, Event, Past, listing, reading, fine, no_room, broken, noted}
 use Rattle.amq_model.specs.Leaves.{Told}
-use Rattle.amq_model.specs.LoadCalls.{AreCalls, AreFirstCalls, AreCallsBy, Makes, is_read, listed, names_among, load_calls, AreReadUntil}
+use Rattle.amq_model.specs.LoadCalls.{AreCalls, AreFirstCalls, AreCallsBy, Makes, is_read, listed, names_among, load_calls, AreUpTo, AreReadUntil}
 use Rattle.amq_model.proofs.Making.{all_then, first_then, first_more, all_are_first, none_are_first, made_none, made_one, made_passed, made_so, made_weaker, made_then}
 use Rattle.amq_io.specs.Listed.{IsListed}
 use Rattle.amq_io.specs.Notes.{Notes}
@@ -290,3 +290,25 @@ calls_done call xs i a b done made = subst (λ (l : List _). Makes (λ s. AreCal
 
 pub no_calls : {X : Type 0} (call : X → Call) (past : Option Past) → Makes (λ s. AreCalls (map call [])) past past
 no_calls call past = made_none (λ s. AreCalls (map call [])) past (λ s. refl)
+
+-- ---- whatever it answers
+
+-- a load makes the first of the calls of a whole one
+pub load_begins : {T : Type 0} (result : Result T LoadFault) (s : Files) (events : List Event) → HasLoadCalls result s events → AreFirstCalls (load_calls s) events
+load_begins (Ok x) s events are = all_are_first (load_calls s) events are
+load_begins (Err f.NotBuilt) s events are = first_more (listing ∷ []) (reads (listed s)) events (all_are_first (listing ∷ []) events are)
+load_begins (Err (f.Disk call)) s events are = are
+load_begins (Err f.NoMemory) s events are = are
+load_begins (Err (f.Directory found)) s events are = by found are.1 where
+  up_to : (last : FileName) → AreUpTo last (listed s) are.0 → AreFirstCalls (load_calls s) events
+  up_to last u =
+      let front : List (FileName × ℕ) = u.before ++ (last, u.len) ∷ [] in
+      let made : AreCalls (listing ∷ reads front) events = are.2 ∙ ap (λ (names : List FileName). listing ∷ map reading names) u.are in
+      let whole : reads front ++ reads u.behind ≡ reads (listed s) = sym (reads_then front u.behind) ∙ ap reads (one_before u.before u.behind (last, u.len) ∙ sym u.split) in
+      subst (λ (calls : List Call). AreFirstCalls (listing ∷ calls) events) whole (first_more (listing ∷ reads front) (reads u.behind) events (all_are_first (listing ∷ reads front) events made))
+
+  by : (found : DirFault) → AreReadUntil found (listed s) are.0 → AreFirstCalls (load_calls s) events
+  by (TooLong n l) u = up_to n u
+  by (Version n v) u = up_to n u
+  by (UserVersion n v w) u = up_to n u
+  by (TwoFiles id a b) all = all_are_first (load_calls s) events (are.2 ∙ ap (λ (names : List FileName). listing ∷ map reading names) all)

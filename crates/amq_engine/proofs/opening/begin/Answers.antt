@@ -126,7 +126,7 @@ returns-in-Ok-clause-begins g c =
     when_fine c.note.result (lists c.note.new.chronicle ≡ option_map (with_receipt 0 m) (option_map (with_base c.replace-base.result) (lists c.args.chronicle.now))) (sym c.is_err.ensures.value ∙ c.if-is_err.false) c.note.ensures.ok
     ∙ ap (λ (b : List Placed). option_map (with_receipt 0 m) (option_map (with_base b) (lists c.args.chronicle.now))) c.replace-base.ensures.value in
     let notes : IfSome (lists c.note.new.chronicle) (IsNoted loaded.base m) = noted loaded.base m (lists c.args.chronicle.now) (lists c.note.new.chronicle) c.requires.blank is in
-    noted_begins loaded.base m (lists c.note.new.chronicle) notes (past c.args.disk.now) (past c.find.new.disk) (past c.renew.new.disk) c.moment.ensures.told c.find.ensures.crash c.renew.ensures.goes_on
+    noted_begins loaded.base m (lists c.note.new.chronicle) notes (past c.args.disk.now) (past c.find.new.disk) (past c.renew.new.disk) c.moment.ensures.told c.find.ensures.crash c.in_ok-loaded.ensures.calls c.renew.ensures.goes_on
 
 pub returns-in-Err-clause-cause : goal.returns-in-Err-clause-cause
 returns-in-Err-clause-cause g c =
@@ -189,19 +189,19 @@ returns-in-Err-clause-begins g c =
     when_fine c.note.result (lists c.note.new.chronicle ≡ option_map (with_receipt 0 m) (option_map (with_base c.replace-base.result) (lists c.args.chronicle.now))) (sym c.is_err.ensures.value ∙ c.if-is_err.false) c.note.ensures.ok
     ∙ ap (λ (b : List Placed). option_map (with_receipt 0 m) (option_map (with_base b) (lists c.args.chronicle.now))) c.replace-base.ensures.value in
     let notes : IfSome (lists c.note.new.chronicle) (IsNoted loaded.base m) = noted loaded.base m (lists c.args.chronicle.now) (lists c.note.new.chronicle) c.requires.blank is in
-    noted_begins loaded.base m (lists c.note.new.chronicle) notes (past c.args.disk.now) (past c.find.new.disk) (past c.renew.new.disk) c.moment.ensures.told c.find.ensures.crash c.renew.ensures.goes_on
+    noted_begins loaded.base m (lists c.note.new.chronicle) notes (past c.args.disk.now) (past c.find.new.disk) (past c.renew.new.disk) c.moment.ensures.told c.find.ensures.crash c.in_ok-loaded.ensures.calls c.renew.ensures.goes_on
 
 -- before anything is noted there were syncs alone
 pub returns-in_err-loaded-clause-begins : goal.returns-in_err-loaded-clause-begins
 returns-in_err-loaded-clause-begins g c =
     let lists = g.C.Chronicle.lists c.args.chronicle.now in
-    begins_blank lists lists (g.D.Disk.past c.args.disk.now) (g.D.Disk.past c.find.new.disk) refl c.requires.blank c.find.ensures.crash
+    begins_blank lists lists (g.D.Disk.past c.args.disk.now) (g.D.Disk.past c.find.new.disk) refl c.requires.blank (c.find.ensures.crash, c.find.ensures.first_calls)
 
 pub returns-then-is_err-clause-begins : goal.returns-then-is_err-clause-begins
 returns-then-is_err-clause-begins g c =
     let lists = g.C.Chronicle.lists in
     let same : lists c.note.new.chronicle ≡ lists c.args.chronicle.now = when_err c.note.result (lists c.note.new.chronicle ≡ lists c.args.chronicle.now) (sym c.is_err.ensures.value ∙ c.if-is_err.true) c.note.ensures.err in
-    begins_blank (lists c.args.chronicle.now) (lists c.note.new.chronicle) (g.D.Disk.past c.args.disk.now) (g.D.Disk.past c.find.new.disk) same c.requires.blank c.find.ensures.crash
+    begins_blank (lists c.args.chronicle.now) (lists c.note.new.chronicle) (g.D.Disk.past c.args.disk.now) (g.D.Disk.past c.find.new.disk) same c.requires.blank (c.find.ensures.crash, c.find.ensures.first_calls)
 
 pub returns-then-is_err-clause-unnoted : goal.returns-then-is_err-clause-unnoted
 returns-then-is_err-clause-unnoted g c =

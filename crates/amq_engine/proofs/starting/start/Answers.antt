@@ -11,6 +11,7 @@ use Rattle.amq_engine.specs.Opening.{HasBase, AreFirstRollbacks, HasOpenCause, r
 use Rattle.amq_engine.specs.Receipts.{IsCrashSafe}
 use Rattle.amq_engine.proofs.Receipts.{if_some}
 use Rattle.amq_engine.proofs.Found.{syncs_none}
+use Rattle.amq_engine.proofs.OpeningCalls.{no_calls}
 use Rattle.amq_engine.proofs.Stages.{valid_opened}
 use Rattle.amq_engine.proofs.Beginning.{begins_blank, begins_through}
 use Rattle.amq_engine.proofs.RollingBack.{rolled_safe}
@@ -24,7 +25,7 @@ pub returns-in_default-clause-begins : goal.returns-in_default-clause-begins
 returns-in_default-clause-begins g c =
     let past = g.D.Disk.past c.args.disk.now in
     let lists = g.C.Chronicle.lists c.args.chronicle.now in
-    begins_blank lists lists past past refl c.requires.blank (syncs_none past)
+    begins_blank lists lists past past refl c.requires.blank (syncs_none past, no_calls past)
 
 pub complete-requires-clause-valid : goal.complete-requires-clause-valid
 complete-requires-clause-valid g c =
