@@ -1,5 +1,5 @@
 -- What a directory loads, and that it loads nothing else.
-use Rattle.std.proofs.Common.{◌≡◌, ℕ, ◌-◌, ◌%◌, ◌^◌, ◌<◌, List, [], ◌∷◌, ◌++◌, length, map, Option, None, Some, Ok, sym, ap, subst, ◌∙◌, arith}
+use Rattle.std.proofs.Common.{◌≡◌, inl, inr, ℕ, ◌-◌, ◌%◌, ◌^◌, ◌<◌, List, [], ◌∷◌, ◌++◌, length, map, Option, None, Some, Ok, Err, sym, ap, subst, ◌∙◌, arith}
 use Rattle.std.specs.Prelude.{Result, OnOk}
 use Rattle.std.specs.FinMap as finite
 use Rattle.std.proofs.Math.Nat.{mod-lt}
@@ -21,12 +21,18 @@ use Rattle.amq_model.specs.Answers.{history_of}
 use Rattle.amq_scan.specs.Segments.{Segment, records_of, AreClosed, AreThere, IsDirectory}
 use Rattle.amq_scan.proofs.Directories.{directory_read}
 use Rattle.amq_scan.proofs.Scans.{same_scan}
+use Rattle.amq_model.specs.LoadCalls.{AreCalls, AreFirstCalls, Makes, load_calls}
+use Rattle.amq_model.proofs.Making.{all_are_first, made_weaker}
+use Rattle.amq_loader.specs.declared.faults.LoadFault.{LoadFault}
+use Rattle.amq_loader.specs.declared.faults.LoadFault.TheVariants as f
+use Rattle.amq_loader.specs.Asked.{HasLoadCalls}
 use Rattle.amq_loader.specs.Loads.{IsStateOf}
 use Rattle.amq_engine.specs.Directory.{IsJournal}
 use Rattle.amq_engine.specs.declared.chronicle.Receipted.{Receipted}
-use Rattle.amq_cli.specs.Offline.{LoadsTo, HasRunOn, IsReported, content_of}
+use Rattle.amq_cli.specs.Offline.{HasPrintCalls, IsEnd, LoadsTo, HasRunOn, IsReported, content_of}
 use Rattle.amq_cli.specs.Replay.{HasReplayed}
-use Rattle.amq_cli.specs.Statuses.{status_of}
+use Rattle.amq_cli.specs.Statuses.{status_of, status_of_load}
+use Rattle.amq_cli.specs.declared.status.Status.{Status}
 use Rattle.amq_cli.specs.declared.status.Status.TheVariants as s
 
 -- ---- one directory
@@ -120,3 +126,18 @@ never_done r.NoMemory done = let e : s.NoMemory ≡ s.Ok = done in cc
 -- what an answer of Ok says
 pub closed_so : (result : Result ℕ Refusal) (count : ℕ) (P : Type 0) → result ≡ Ok count → OnOk result P → P
 closed_so result count P is p = subst (λ (r : Result ℕ Refusal). OnOk r P) is p
+
+-- ---- the calls of a load that is reported
+
+-- a report was written, or its writing was cut off
+pub written_calls : (status : Status) (sink sink' : ℕ) (old new : Option Past) → IsEnd status s.Ok sink sink' → Makes (λ before. AreCalls (load_calls before)) old new → Makes (HasPrintCalls status) old new
+written_calls status sink sink' old new (inl is) made = subst (λ (x : Status). Makes (HasPrintCalls x) old new) (sym is) made
+written_calls status sink sink' old new (inr (inl is)) made = subst (λ (x : Status). Makes (HasPrintCalls x) old new) (sym is) (made_weaker (λ before. AreCalls (load_calls before)) (λ before. AreFirstCalls (load_calls before)) old new (λ before. all_are_first (load_calls before)) made)
+written_calls status sink sink' old new (inr (inr failed)) made = subst (λ (x : Status). Makes (HasPrintCalls x) old new) (sym failed.0) made
+
+-- there was nothing to report
+pub refused_calls : (T : Type 0) (fault : LoadFault) (old new : Option Past) → Makes (HasLoadCalls {T = T} (Err fault)) old new → Makes (HasPrintCalls (status_of_load fault)) old new
+refused_calls T (f.Directory fault) old new made = made
+refused_calls T (f.Disk call) old new made = made
+refused_calls T f.NoMemory old new made = made
+refused_calls T f.NotBuilt old new made = made

@@ -10,7 +10,8 @@ use Rattle.amq_model.specs.declared.history.Step.{Step}
 use Rattle.amq_model.specs.declared.record.Placed.{Placed}
 use Rattle.amq_model.specs.declared.state.LoadState.{LoadState}
 use Rattle.amq_model.specs.Answers.{history_of}
-use Rattle.amq_model.specs.Calls.{Past, content}
+use Rattle.amq_model.specs.Calls.{Event, Past, listing, content}
+use Rattle.amq_model.specs.LoadCalls.{AreCalls, AreFirstCalls, Makes, load_calls, AreCallsUntil}
 use Rattle.amq_model.specs.Directory.{Loads}
 use Rattle.amq_model.specs.Effect.{result_of}
 use Rattle.amq_model.specs.Files.{Files, Image, IsReading}
@@ -230,9 +231,20 @@ HasPrintCause s.SinkFault sink sink' disk disk' = Rose sink sink'
 HasPrintCause s.DiskFault sink sink' disk disk' = Rose disk.0 disk'.0
 HasPrintCause _ sink sink' disk disk' = Unit {0}
 
--- What `print` does, with every status: it makes no disk call but list and read, and opens nothing.
+-- Which calls `print` has made with this status: those of a whole load where it has a report, those until the fault is known where the directory has one, the list alone where a file has the control file's name, and else the first ones of a load.
+abbrev pub HasPrintCalls : Status → Files → List Event → Type 0
+HasPrintCalls s.Ok before events = AreCalls (load_calls before) events
+HasPrintCalls s.SinkFault before events = AreCalls (load_calls before) events
+HasPrintCalls (s.Directory fault) before events = AreCallsUntil fault before events
+HasPrintCalls (s.NotBuilt u.Directory) before events = AreCalls (listing ∷ []) events
+HasPrintCalls s.DiskFault before events = AreFirstCalls (load_calls before) events
+HasPrintCalls s.NoMemory before events = AreFirstCalls (load_calls before) events
+HasPrintCalls _ before events = ⊥
+
+-- What `print` does, with every status: it makes no disk call but list and read, and of these the calls of a load, each once; and it opens nothing.
 pub record IsPrint (status : Status) (wanted : ℕ) (past_old past_new : Option Past) (taken_old taken_new : Option (List ℕ)) (steps : List Step) (receipts : List Receipted) : Type 0 where
   pub asks : OnlyAsks past_old past_new
+  pub calls : Makes (HasPrintCalls status) past_old past_new
   pub written : IsPrinted status wanted past_old taken_old taken_new
   pub no_steps : steps ≡ []
   pub no_receipts : receipts ≡ []

@@ -1,7 +1,8 @@
 //! Reporting what a directory has.
 ghost use Rattle.std.specs.Prelude.{◌≡◌, ◌≤◌, true};
 ghost use Rattle.amq_model.specs.Leaves.{Leaves, OnlyAsks, Unchanged};
-ghost use Rattle.amq_cli.specs.Offline.{HasPrintCause, IsPrinted, is_unwritten};
+ghost use Rattle.amq_model.specs.LoadCalls.{Makes};
+ghost use Rattle.amq_cli.specs.Offline.{HasPrintCalls, HasPrintCause, IsPrinted, is_unwritten};
 ghost use Rattle.amq_cli.specs.Statuses.{status_of_load};
 
 use crate::report::write_report;
@@ -22,6 +23,7 @@ pub fn print<D: Disk, K: Sink>(
     ensures unwritten { is_unwritten result ≡ true → sink.new ≡ sink.old }
     ensures unread { result ≡ Status.DiskFault → sink.new ≡ sink.old }
     ensures asks { OnlyAsks (D.past disk.old) (D.past disk.new) }
+    ensures calls { Makes (HasPrintCalls result) (D.past disk.old) (D.past disk.new) }
     ensures only_asks { Leaves Unchanged Unchanged (D.past disk.old) (D.past disk.new) }
     ensures later { (D.faults disk.old).0 ≤ (D.faults disk.new).0 }
     ensures moment { D.moment disk.old ≤ D.moment disk.new }
