@@ -5,7 +5,7 @@ use Rattle.amq_cli.specs.declared.status.Status.TheVariants.{NoMemory}
 use Rattle.amq_cli.specs.Offline.{IsLoadedState, IsEnding, is_past_script}
 use Rattle.amq_cli.specs.Script.{HasReadCause}
 use Rattle.amq_model.proofs.Settling.{unchanged_are_syncs}
-use Rattle.amq_cli.proofs.Beginning.{nothing_begins, begins_still}
+use Rattle.amq_cli.proofs.Beginning.{nothing_begins, begins_still, print_begins}
 use Rattle.amq_cli.proofs.Outputs.{no_output, reading_ends, asking_ends, short_ends}
 use Rattle.amq_cli.proofs.program.offline_with.Goals as goal
 use Rattle.amq_cli.proofs.program.offline_with.Goals.{in-Some-Replay, in-Some-Settle, in-None}
@@ -31,7 +31,7 @@ pub returns-in-Some-Print-clause-begins : goal.returns-in-Some-Print-clause-begi
 returns-in-Some-Print-clause-begins g c =
     let old = g.D.Disk.past c.args.disk in
     let new = g.D.Disk.past c.print-status.new.disk in
-    nothing_begins old new c.new.result.receipts.items (search rules) (unchanged_are_syncs old new c.print-status.ensures.only_asks)
+    nothing_begins old new c.new.result.receipts.items (search rules) (unchanged_are_syncs old new c.print-status.ensures.only_asks, print_begins c.print-status.result old new c.print-status.ensures.calls)
 
 pub returns-in-Err-clause-begins : goal.returns-in-Err-clause-begins
 returns-in-Err-clause-begins g c =
