@@ -103,7 +103,7 @@ abbrev second : Step
 second = record { seat = 1; number = 2; command = c.Delete 1; answer = Done (Appended 1); placed = Some (record { file = 1; place = 39; compact = 0; rec = rec.Delete 1 }) }
 
 abbrev receipts : List Receipted
-receipts = record { durable = 0; moment = 5 } ∷ record { durable = 1; moment = 7 } ∷ record { durable = 2; moment = 9 } ∷ []
+receipts = record { durable = 0; moment = 5; steps = 0 } ∷ record { durable = 1; moment = 7; steps = 1 } ∷ record { durable = 2; moment = 9; steps = 2 } ∷ []
 
 -- the tick is no step
 pub three_lines : AreAnswered 3 lines (first ∷ second ∷ []) receipts answered
@@ -129,8 +129,8 @@ a_step_is_missing h = let n : ◌≡◌ {A = ℕ} 1 2 = ap length h.commands in 
 pub a_number_is_left_out : AreAnswered 3 lines (first ∷ record second { number = 3 } ∷ []) receipts answered → ⊥
 a_number_is_left_out h = let n : ◌≡◌ {A = ℕ} 3 2 = h.numbered.2.1 in omega (arith, n)
 
-pub a_count_without_a_receipt : AreAnswered 3 lines (first ∷ second ∷ []) (record { durable = 0; moment = 5 } ∷ record { durable = 2; moment = 9 } ∷ []) answered → ⊥
-a_count_without_a_receipt h = true≢false (sym (All-head (IsReceipted (record { durable = 0; moment = 5 } ∷ record { durable = 2; moment = 9 } ∷ [])) 1 [] h.receipted))
+pub a_count_without_a_receipt : AreAnswered 3 lines (first ∷ second ∷ []) (record { durable = 0; moment = 5; steps = 0 } ∷ record { durable = 2; moment = 9; steps = 2 } ∷ []) answered → ⊥
+a_count_without_a_receipt h = true≢false (sym (All-head (IsReceipted (record { durable = 0; moment = 5; steps = 0 } ∷ record { durable = 2; moment = 9; steps = 2 } ∷ [])) 1 [] h.receipted))
 
 -- the tick would be answered 0 a moment too late
 pub a_tick_too_late : AreAnswered 3 lines (first ∷ second ∷ []) receipts (appended add 0 ∷ durable 3 0 ∷ appended (c.Delete 1) 1 ∷ []) → ⊥

@@ -1,5 +1,5 @@
 -- The first receipt of a chronicle stays, and up to it the disk was only asked and synced.
-use Rattle.std.proofs.Common.{◌≡◌, ◌⊎◌, inl, inr, ℕ, Bool, true, false, List, [], ◌∷◌, ◌++◌, Option, None, Some, refl, sym, ap, subst}
+use Rattle.std.proofs.Common.{◌≡◌, ◌⊎◌, inl, inr, ℕ, Bool, true, false, List, [], ◌∷◌, ◌++◌, length, Option, None, Some, refl, sym, ap, subst}
 use Rattle.std.specs.Prelude.{IfSome, option_map}
 use Rattle.amq_model.specs.declared.history.Step.{Step}
 use Rattle.amq_model.specs.Calls.{Past}
@@ -19,7 +19,7 @@ module _ (r : Receipted) where
   receipted_starts : (b : Bool) (count moment : ℕ) (lists : Option Lists) → IfSome lists (StartsWith r) → IfSome (receipted b count moment lists) (StartsWith r)
   receipted_starts false count moment lists starts = starts
   receipted_starts true count moment None starts = tt
-  receipted_starts true count moment (Some l) starts = (starts.0 ++ record { durable = count; moment = moment } ∷ [], ap (λ (rs : List Receipted). rs ++ record { durable = count; moment = moment } ∷ []) starts.1)
+  receipted_starts true count moment (Some l) starts = (starts.0 ++ record { durable = count; moment = moment; steps = length l.steps } ∷ [], ap (λ (rs : List Receipted). rs ++ record { durable = count; moment = moment; steps = length l.steps } ∷ []) starts.1)
 
   pub starts_receipted : (b : Bool) (count moment : ℕ) (lists lists' : Option Lists) → lists' ≡ receipted b count moment lists → IfSome lists (StartsWith r) → IfSome lists' (StartsWith r)
   starts_receipted b count moment lists lists' is starts = starts_same (receipted b count moment lists) lists' is (receipted_starts b count moment lists starts)

@@ -6,11 +6,11 @@ use Rattle.std.specs.FinMap as finite
 use Rattle.std.proofs.lemmas.List.{append-nil}
 use Rattle.amq_model.specs.declared.config.Config.{Config}
 use Rattle.amq_model.specs.declared.record.Placed.{Placed}
+use Rattle.amq_model.specs.declared.history.Step.{Step}
 use Rattle.amq_model.specs.Configs.{IsConfig}
 use Rattle.amq_model.specs.Names.{is_data, control_name}
 use Rattle.amq_model.specs.Files.{FileName, Files, File}
 use Rattle.amq_model.specs.Calls.{Past, content}
-use Rattle.amq_model.specs.declared.history.Step.{Step}
 use Rattle.amq_model.specs.Answers.{history_of}
 use Rattle.amq_model.specs.Legal.{rolled_back}
 use Rattle.amq_model.specs.Headline.{RecoversSince}
@@ -198,13 +198,13 @@ base_now wanted highest t base h b at early = holds_now (Holds wanted base 0 [])
 pub record IsNoted (base : List Placed) (moment : ℕ) (l : Lists) : Type 0 where
   pub base_is : l.base ≡ base
   pub steps : l.steps ≡ []
-  pub receipts : l.receipts ≡ record { durable = 0; moment = moment } ∷ []
+  pub receipts : l.receipts ≡ record { durable = 0; moment = moment; steps = 0 } ∷ []
 
 pub noted : (base : List Placed) (moment : ℕ) (lists lists' : Option Lists) → IfSome lists IsBlank → lists' ≡ option_map (with_receipt 0 moment) (option_map (with_base base) lists) → IfSome lists' (IsNoted base moment)
 noted base moment lists lists' blank is = subst (λ (l : Option Lists). IfSome l (IsNoted base moment)) (sym is) (by lists blank) where
   by : (o : Option Lists) → IfSome o IsBlank → IfSome (option_map (with_receipt 0 moment) (option_map (with_base base) o)) (IsNoted base moment)
   by None blank = tt
-  by (Some l) blank = record { base_is = refl; steps = blank.1; receipts = ap (λ (rs : List Receipted). rs ++ record { durable = 0; moment = moment } ∷ []) blank.2 }
+  by (Some l) blank = record { base_is = refl; steps = blank.1; receipts = ap (λ (rs : List Receipted). rs ++ record { durable = 0; moment = moment; steps = length l.steps } ∷ []) blank.2 ∙ ap (λ (ss : List Step). record { durable = 0; moment = moment; steps = length ss } ∷ []) blank.1 }
 
 module _ (d : Option Past) (wanted : ℕ) (base : List Placed) (m : ℕ) (holds : m < 2 ^ 64 - 1 → HoldsSince d m (Holds wanted base 0 [])) where
   noted_told : (l : Lists) → IsNoted base m l → IsTold d wanted base 0 [] [] l
@@ -313,7 +313,7 @@ module _ (base : List Placed) (m : ℕ) (lists : Option Lists) (notes : IfSome l
 
   -- there is a receipt
   pub noted_unblank : IfSome lists (λ l. l.receipts ≡ [] → IsBlank l)
-  noted_unblank = if_some (IsNoted base m) (λ l. l.receipts ≡ [] → IsBlank l) lists (λ l n none. absurd (let e : record { durable = 0; moment = m } ∷ [] ≡ [] = sym n.receipts ∙ none in cc)) notes
+  noted_unblank = if_some (IsNoted base m) (λ l. l.receipts ≡ [] → IsBlank l) lists (λ l n none. absurd (let e : record { durable = 0; moment = m; steps = 0 } ∷ [] ≡ [] = sym n.receipts ∙ none in cc)) notes
 
   -- and no rollback yet
   pub noted_rollbacks : (config : Config) (files before : ℕ) (h : Option Past) → Told h (HasNumbers files before) → IfSome lists (λ l. IsBlank l ⊎ Told h (AreFirstRollbacks config l))

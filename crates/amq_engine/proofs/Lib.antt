@@ -24,8 +24,10 @@ pub mod Found
 pub mod Begun
 pub mod RollingBack
 pub mod Rollbacks
+pub mod Owing
 pub mod Started
 pub mod ReceiptExamples
+pub mod OwedExamples
 pub mod EngineExamples
 pub mod DirectoryExamples
 pub mod OpeningExamples

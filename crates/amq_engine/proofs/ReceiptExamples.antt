@@ -4,7 +4,7 @@ use Rattle.amq_engine.specs.declared.chronicle.Receipted.{Receipted}
 use Rattle.amq_engine.specs.Receipts.{Follows, AreInOrder, IsLastCount}
 
 abbrev receipt : ℕ → ℕ → Receipted
-receipt durable moment = record { durable = durable; moment = moment }
+receipt durable moment = record { durable = durable; moment = moment; steps = 0 }
 
 -- ---- one behind another
 

@@ -40,7 +40,7 @@ kept_through I E R wanted base durable history (r ∷ rs) a b all now inside lea
 )
 
 -- one more receipt
-pub kept_push : (wanted : ℕ) (base : List Placed) (durable later : ℕ) (history : List Placed) (rs : List Receipted) (count m : ℕ) (h : Option Past) → durable ≤ later → count ≤ later → AreKept h wanted base durable history rs
-    → (m < 2 ^ 64 - 1 → HoldsSince h m (Holds wanted base count history)) → AreKept h wanted base later history (rs ++ record { durable = count; moment = m } ∷ [])
-kept_push wanted base durable later history [] count m h le most all kept = ((most, kept), tt)
-kept_push wanted base durable later history (r ∷ rs) count m h le most all kept = ((omega (arith, all.0.0, le), all.0.1), kept_push wanted base durable later history rs count m h le most all.1 kept)
+pub kept_push : (wanted : ℕ) (base : List Placed) (durable later : ℕ) (history : List Placed) (rs : List Receipted) (count m n : ℕ) (h : Option Past) → durable ≤ later → count ≤ later → AreKept h wanted base durable history rs
+    → (m < 2 ^ 64 - 1 → HoldsSince h m (Holds wanted base count history)) → AreKept h wanted base later history (rs ++ record { durable = count; moment = m; steps = n } ∷ [])
+kept_push wanted base durable later history [] count m n h le most all kept = ((most, kept), tt)
+kept_push wanted base durable later history (r ∷ rs) count m n h le most all kept = ((omega (arith, all.0.0, le), all.0.1), kept_push wanted base durable later history rs count m n h le most all.1 kept)

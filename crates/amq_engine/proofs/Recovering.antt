@@ -66,23 +66,23 @@ valid_safe stage past moment (Some l) room config table pool tail v =
 -- ---- receipts
 
 -- one receipt more, of a flush that wrote and synced, or of none
-follow_more : (moment later count durable : ℕ) (r : Receipted) (rs : List Receipted) → durable ≤ count → moment ≤ later → (durable < count → later < 2 ^ 64 - 1 → moment + 2 ≤ later) → EndsWith durable r rs → FollowUpTo moment r rs
-    → FollowUpTo later r (rs ++ record { durable = count; moment = later } ∷ [])
-follow_more moment later count durable r [] most on apart ends order = (record { counts = omega (arith, ends, most); moments = omega (arith, order, on); apart = λ more low. omega (arith, apart (omega (arith, ends, more)) low, order) }, omega arith)
-follow_more moment later count durable r (s ∷ ss) most on apart ends order = (order.0, follow_more moment later count durable s ss most on apart ends order.1)
+follow_more : (moment later count durable n : ℕ) (r : Receipted) (rs : List Receipted) → durable ≤ count → moment ≤ later → (durable < count → later < 2 ^ 64 - 1 → moment + 2 ≤ later) → EndsWith durable r rs → FollowUpTo moment r rs
+    → FollowUpTo later r (rs ++ record { durable = count; moment = later; steps = n } ∷ [])
+follow_more moment later count durable n r [] most on apart ends order = (record { counts = omega (arith, ends, most); moments = omega (arith, order, on); apart = λ more low. omega (arith, apart (omega (arith, ends, more)) low, order) }, omega arith)
+follow_more moment later count durable n r (s ∷ ss) most on apart ends order = (order.0, follow_more moment later count durable n s ss most on apart ends order.1)
 
-pub order_more : (moment later count durable : ℕ) (rs : List Receipted) → durable ≤ count → moment ≤ later → (durable < count → later < 2 ^ 64 - 1 → moment + 2 ≤ later) → IsLastCount durable rs → AreInOrder moment rs
-    → AreInOrder later (rs ++ record { durable = count; moment = later } ∷ [])
-order_more moment later count durable [] most on apart last order = absurd last
-order_more moment later count durable (r ∷ rs) most on apart last order = (order.0, follow_more moment later count durable r rs most on apart last order.1)
+pub order_more : (moment later count durable n : ℕ) (rs : List Receipted) → durable ≤ count → moment ≤ later → (durable < count → later < 2 ^ 64 - 1 → moment + 2 ≤ later) → IsLastCount durable rs → AreInOrder moment rs
+    → AreInOrder later (rs ++ record { durable = count; moment = later; steps = n } ∷ [])
+order_more moment later count durable n [] most on apart last order = absurd last
+order_more moment later count durable n (r ∷ rs) most on apart last order = (order.0, follow_more moment later count durable n r rs most on apart last order.1)
 
-ends_more : (count later : ℕ) (r : Receipted) (rs : List Receipted) → EndsWith count r (rs ++ record { durable = count; moment = later } ∷ [])
-ends_more count later r [] = refl
-ends_more count later r (s ∷ ss) = ends_more count later s ss
+ends_more : (count later n : ℕ) (r : Receipted) (rs : List Receipted) → EndsWith count r (rs ++ record { durable = count; moment = later; steps = n } ∷ [])
+ends_more count later n r [] = refl
+ends_more count later n r (s ∷ ss) = ends_more count later n s ss
 
-pub last_more : (count later : ℕ) (rs : List Receipted) → IsLastCount count (rs ++ record { durable = count; moment = later } ∷ [])
-last_more count later [] = refl
-last_more count later (r ∷ rs) = ends_more count later r rs
+pub last_more : (count later n : ℕ) (rs : List Receipted) → IsLastCount count (rs ++ record { durable = count; moment = later; steps = n } ∷ [])
+last_more count later n [] = refl
+last_more count later n (r ∷ rs) = ends_more count later n r rs
 
 follow_later : (moment later : ℕ) (r : Receipted) (rs : List Receipted) → moment ≤ later → FollowUpTo moment r rs → FollowUpTo later r rs
 follow_later moment later r [] on order = omega (arith, order, on)
@@ -108,9 +108,9 @@ pub receipted_order : (moment later m count durable : ℕ) (lists lists' : Optio
 receipted_order moment later m count durable None lists' most now twice is last order = subst (λ (l : Option Lists). IfSome l (λ l. AreInOrder later l.receipts)) (sym is) tt
 receipted_order moment later m count durable (Some l) lists' most now twice is last order =
     subst (λ (l : Option Lists). IfSome l (λ l. AreInOrder later l.receipts)) (sym is)
-    (subst (λ (n : ℕ). AreInOrder later (l.receipts ++ record { durable = count; moment = n } ∷ [])) (sym now)
-    (order_more moment later count durable l.receipts most (omega (arith, twice)) (λ more low. omega (arith, twice, low)) last order))
+    (subst (λ (n : ℕ). AreInOrder later (l.receipts ++ record { durable = count; moment = n; steps = length l.steps } ∷ [])) (sym now)
+    (order_more moment later count durable (length l.steps) l.receipts most (omega (arith, twice)) (λ more low. omega (arith, twice, low)) last order))
 
 pub receipted_last : (m count : ℕ) (lists lists' : Option Lists) → lists' ≡ option_map (with_receipt count m) lists → IfSome lists' (λ l. IsLastCount count l.receipts)
 receipted_last m count None lists' is = subst (λ (l : Option Lists). IfSome l (λ l. IsLastCount count l.receipts)) (sym is) tt
-receipted_last m count (Some l) lists' is = subst (λ (l : Option Lists). IfSome l (λ l. IsLastCount count l.receipts)) (sym is) (last_more count m l.receipts)
+receipted_last m count (Some l) lists' is = subst (λ (l : Option Lists). IfSome l (λ l. IsLastCount count l.receipts)) (sym is) (last_more count m (length l.steps) l.receipts)

@@ -130,7 +130,7 @@ module _ (a b : Option Past) (lists : Option Lists) (room : ℕ) (config : Confi
       record {
         base = still.base;
         same = still.same;
-        kept = kept_push config.user_version s.parts.base t.durable t.appended history l.receipts t.appended m b (omega (arith, s.parts.durable, s.parts.count, s.parts.some)) (omega arith) still.kept
+        kept = kept_push config.user_version s.parts.base t.durable t.appended history l.receipts t.appended m (length l.steps) b (omega (arith, s.parts.durable, s.parts.count, s.parts.some)) (omega arith) still.kept
             (λ early. kept_weaker Then (Holds config.user_version s.parts.base t.appended history) m b all (holds_now Then m b moment early now));
       }) s.told in
       record {

@@ -5,3 +5,4 @@ pub mod Puts
 pub mod Receipts
 pub mod Engine
 pub mod Opening
+pub mod Owed

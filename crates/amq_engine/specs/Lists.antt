@@ -1,5 +1,5 @@
 -- What a chronicle tells.
-use Rattle.std.specs.Prelude.{ℕ, List, [], ◌∷◌, ◌++◌, Option, option_map}
+use Rattle.std.specs.Prelude.{ℕ, List, [], ◌∷◌, ◌++◌, Option, option_map, length}
 use Rattle.amq_model.specs.declared.record.Placed.{Placed}
 use Rattle.amq_model.specs.declared.history.Step.{Step}
 use Rattle.amq_engine.specs.declared.chronicle.Receipted.{Receipted}
@@ -18,9 +18,9 @@ with_base base l = record { base = base; steps = l.steps; receipts = l.receipts 
 abbrev pub with_step : Step → Lists → Lists
 with_step s l = record { base = l.base; steps = l.steps ++ s ∷ []; receipts = l.receipts }
 
--- the same with one more receipt
+-- the same with one more receipt, noted behind these steps
 abbrev pub with_receipt : ℕ → ℕ → Lists → Lists
-with_receipt durable moment l = record { base = l.base; steps = l.steps; receipts = l.receipts ++ record { durable = durable; moment = moment } ∷ [] }
+with_receipt durable moment l = record { base = l.base; steps = l.steps; receipts = l.receipts ++ record { durable = durable; moment = moment; steps = length l.steps } ∷ [] }
 
 -- the steps of a chronicle that tells them
 abbrev pub steps_in : Option Lists → Option (List Step)

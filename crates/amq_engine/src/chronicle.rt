@@ -5,11 +5,13 @@ use crate::log::Log;
 use amq_model::{Items, NoMemory, Placed, Step};
 use std::alloc::Global;
 
-/// So many appends were durable when the disk had ended this many calls.
+/// So many appends were durable when the disk had ended this many calls. The chronicle had so many
+/// steps when that was noted.
 #[derive(Clone, Copy, Debug, PartialEq, Eq)]
 pub struct Receipted {
     pub durable: u64,
     pub moment: u64,
+    pub steps: u64,
 }
 
 /// Through which an engine tells what it did.
@@ -50,7 +52,7 @@ pub trait Chronicle {
         ensures steps { step_room self.old ≤ step_room self.new + 1 }
         ensures receipts { receipt_room self.new ≡ receipt_room self.old };
 
-    /// Notes a receipt behind the others. Takes no memory.
+    /// Notes a receipt behind the others, with the number of steps so far. Takes no memory.
     fn receipt(&mut self, durable: u64, moment: u64)
         requires { 1 ≤ receipt_room self.old }
         ensures noted { lists self.new ≡ option_map (with_receipt durable moment) (lists self.old) }
@@ -103,7 +105,11 @@ impl Chronicle for Kept {
     }
 
     fn receipt(&mut self, durable: u64, moment: u64) {
-        self.receipts.push(Receipted { durable, moment });
+        self.receipts.push(Receipted {
+            durable,
+            moment,
+            steps: self.steps.as_slice().len() as u64,
+        });
     }
 }
 

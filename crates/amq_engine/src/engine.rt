@@ -4,7 +4,7 @@ ghost use Rattle.amq_model.specs.Configs.{IsConfig};
 ghost use Rattle.amq_model.specs.Calls.{counted};
 ghost use Rattle.amq_model.specs.Leaves.{Told};
 ghost use Rattle.amq_model.specs.Effect.{result_of};
-ghost use Rattle.amq_model.specs.Legal.{AreLegalOfRefused, rolled_back};
+ghost use Rattle.amq_model.specs.Legal.{AreLegalOfRefused, rolled_back, end_of};
 ghost use Rattle.amq_model.specs.declared.refusal.DiskCall.{DiskCall};
 ghost use Rattle.amq_model.specs.Answers.{history_of, refusal};
 ghost use Rattle.amq_buffer.specs.Buffered.{is_due};
@@ -13,6 +13,7 @@ ghost use Rattle.amq_engine.specs.Directory.{IsJournal};
 ghost use Rattle.amq_engine.specs.Opening.{HasBase, AreRolledBack, AreFirstRollbacks, IsFilled, HasOpenCause};
 ghost use Rattle.amq_engine.specs.Receipts.{IsCrashSafe, GoesOn, BeginsBySyncs};
 ghost use Rattle.amq_engine.specs.Engine.{Notes, IsCommandAnswer, IsCommandRefusal, IsChronicle, IsBlank, AreSpentAtLast, HasCause, IsFlushRefusal, closed_after, durable_after, fault_refusal, closed_by, receipted, IsReply, prepares, asks_disk, flushed, behind_command, BehindRefused, behind_tick, must_flush, at_clock};
+ghost use Rattle.amq_engine.specs.Owed.{AreOwedAtOpening};
 
 use crate::chronicle::Chronicle;
 use crate::commands::{numbered, refusal_of, room_for};
@@ -132,6 +133,11 @@ impl<D: Disk, C: Chronicle> Engine<D, C> {
         ensures begins { IfOk result (λ e. IfSome (C.lists e.0.chronicle) (λ l. BeginsBySyncs l.receipts (D.past disk) (D.past e.0.disk))) }
         ensures failed_begins { IfErr result (λ e. IfSome (C.lists e.chronicle) (λ l. BeginsBySyncs l.receipts (D.past disk) (D.past e.disk))) }
         ensures chronicle { IfOk result (λ e. IfSome (C.lists e.0.chronicle) (IsChronicle (D.past e.0.disk) (D.moment e.0.disk) config e.0.appended e.0.durable)) }
+        ensures ends { IfOk result (λ e. IfSome (C.lists e.0.chronicle) (λ l. e.0.end ≡ end_of (history_of l.steps))) }
+
+        // Nothing is made durable but for a rollback that doesn't fit, and behind the last one.
+        ensures owed { IfOk result (λ e. IfSome (C.lists e.0.chronicle) (AreOwedAtOpening config)) }
+        ensures failed_owed { IfErr result (λ e. IfSome (C.lists e.chronicle) (AreOwedAtOpening config)) }
     {
         match start(alloc, &mut disk, &mut chronicle, &config) {
             Ok(
@@ -262,6 +268,8 @@ impl<D: Disk, C: Chronicle> Engine<D, C> {
         ensures later { (D.faults self.old.disk).0 ≤ (D.faults self.new.disk).0 }
         ensures goes_on { GoesOn (D.past self.old.disk) (D.past self.new.disk) }
         ensures chronicle { IfSome (C.lists self.new.chronicle) (IsChronicle (D.past self.new.disk) (D.moment self.new.disk) self.new.config self.new.appended self.new.durable) }
+        ensures waits { IsSome self.old.since → self.old.durable < self.old.appended }
+        ensures told { IfSome (C.lists self.old.chronicle) (IsChronicle (D.past self.old.disk) (D.moment self.old.disk) self.old.config self.old.appended self.old.durable) }
     {
         if let Some(fault) = self.closed {
             return Err(Refusal::Closed { fault });
@@ -316,6 +324,8 @@ impl<D: Disk, C: Chronicle> Engine<D, C> {
         ensures goes_on { GoesOn (D.past self.disk) (D.past result.0) }
         ensures content { OnOk result.2 (IfSome (C.lists result.1) (λ l. Told (D.past result.0) (IsJournal self.config.user_version l.base (history_of l.steps)))) }
         ensures chronicle { IfSome (C.lists result.1) (IsChronicle (D.past result.0) (D.moment result.0) self.config self.appended (durable_after result.2 self.durable)) }
+        ensures waits { IsSome self.since → self.durable < self.appended }
+        ensures told { IfSome (C.lists self.chronicle) (IsChronicle (D.past self.disk) (D.moment self.disk) self.config self.appended self.durable) }
     {
         let outcome = self.flush();
         let Engine {

@@ -18,6 +18,7 @@ ghost use Rattle.amq_engine.specs.Lists.{Lists, with_base, with_receipt};
 ghost use Rattle.amq_engine.specs.Receipts.{IsCrashSafe, GoesOn, AreOpeningCalls, AreFirstOpeningCalls, BeginsBySyncs};
 ghost use Rattle.amq_engine.specs.Engine.{rolling, IsValid, IsBlank, Holds, open_fault};
 ghost use Rattle.amq_engine.specs.Opening.{HasBase, HasNumbers, AreFirstRollbacks, HasOpenCause, load_fault, AreLeft};
+ghost use Rattle.amq_engine.specs.Owed.{AreOwedToSteps};
 
 use crate::chronicle::Chronicle;
 use crate::moving::MOST_NUMBER;
@@ -260,6 +261,7 @@ pub fn begin<D: Disk, C: Chronicle>(
     ensures rollbacks { IfSome (C.lists chronicle.new) (λ l. IsBlank l ⊎ Told (D.past disk.old) (AreFirstRollbacks config.now l)) }
     ensures unnoted { IfSome (C.lists chronicle.new) (λ l. l.receipts ≡ [] → IsBlank l) }
     ensures begins { IfSome (C.lists chronicle.new) (λ l. BeginsBySyncs l.receipts (D.past disk.old) (D.past disk.new)) }
+    ensures owed { IfSome (C.lists chronicle.new) (AreOwedToSteps config.now) }
 {
     let Found {
         mut loaded,

@@ -12,6 +12,7 @@ ghost use Rattle.amq_engine.specs.Lists.{steps_in};
 ghost use Rattle.amq_engine.specs.Receipts.{GoesOn, StartsWith};
 ghost use Rattle.amq_engine.specs.Engine.{rolling, IsValid, end_of_tail};
 ghost use Rattle.amq_engine.specs.Opening.{EndsIn, HasRollCause, rollback_behind, rollbacks_behind};
+ghost use Rattle.amq_engine.specs.Owed.{AreOwedToSteps, AreOwedAtOpening};
 
 use crate::chronicle::Chronicle;
 use crate::commands::{make_room, number_refusal};
@@ -58,6 +59,8 @@ pub fn roll_back<D: Disk, C: Chronicle>(
     ensures goes_on { GoesOn (D.past disk.old) (D.past disk.new) }
     ensures tidy { OnOk result (Told (D.past disk.old) IsTidy → Told (D.past disk.new) IsTidy) }
     ensures first { (r : Receipted) → IfSome (C.lists chronicle.old) (StartsWith r) → IfSome (C.lists chronicle.new) (StartsWith r) }
+    ensures owed { IfSome (C.lists chronicle.old) (AreOwedToSteps config.now) → OnOk result (IfSome (C.lists chronicle.new) (AreOwedToSteps config.now)) }
+    ensures failed_owed { IfSome (C.lists chronicle.old) (AreOwedToSteps config.now) → OnErr result (IfSome (C.lists chronicle.new) (AreOwedAtOpening config.now)) }
 {
     for (done, tx) in txs.iter().enumerate() {
         roll_back_next(disk, chronicle, config, table, pool, tail, done as u64, *tx)?;
@@ -99,6 +102,8 @@ fn roll_back_next<D: Disk, C: Chronicle>(
     ensures goes_on { GoesOn (D.past disk.old) (D.past disk.new) }
     ensures tidy { OnOk result (Told (D.past disk.old) IsTidy → Told (D.past disk.new) IsTidy) }
     ensures first { (r : Receipted) → IfSome (C.lists chronicle.old) (StartsWith r) → IfSome (C.lists chronicle.new) (StartsWith r) }
+    ensures owed { IfSome (C.lists chronicle.old) (AreOwedToSteps config.now) → OnOk result (IfSome (C.lists chronicle.new) (AreOwedToSteps config.now)) }
+    ensures failed_owed { IfSome (C.lists chronicle.old) (AreOwedToSteps config.now) → OnErr result (IfSome (C.lists chronicle.new) (AreOwedAtOpening config.now)) }
 {
     let command = Command::Rollback { tx };
     if make_room(chronicle, table, &command).is_err() {

@@ -4,7 +4,7 @@ ghost use Rattle.amq_model.specs.declared.record.Placed.{Placed};
 ghost use Rattle.amq_model.specs.Configs.{IsConfig};
 ghost use Rattle.amq_model.specs.Effect.{result_of};
 ghost use Rattle.amq_model.specs.Answers.{history_of};
-ghost use Rattle.amq_model.specs.Legal.{rolled_back, AreLegalOfRefused};
+ghost use Rattle.amq_model.specs.Legal.{rolled_back, AreLegalOfRefused, end_of};
 ghost use Rattle.amq_model.specs.Leaves.{Told};
 ghost use Rattle.amq_tx.specs.Tables.{state_of};
 ghost use Rattle.amq_pool.specs.Pools.{ids_of};
@@ -14,6 +14,7 @@ ghost use Rattle.amq_engine.specs.Directory.{files_from};
 ghost use Rattle.amq_engine.specs.Receipts.{IsCrashSafe, GoesOn, BeginsBySyncs, StartsWith};
 ghost use Rattle.amq_engine.specs.Engine.{opened, rolling, IsValid, IsBlank, AreSpentAtLast, end_of_tail};
 ghost use Rattle.amq_engine.specs.Opening.{HasBase, AreRolledBack, AreFirstRollbacks, EndsIn, IsFilled, HasOpenCause, HasRollCause, rollbacks_behind};
+ghost use Rattle.amq_engine.specs.Owed.{AreOwedToSteps, AreOwedAtOpening};
 
 use crate::chronicle::Chronicle;
 use crate::moving::{FIRST_PLACE, fill_pool};
@@ -71,6 +72,7 @@ fn complete<D: Disk, C: Chronicle>(
     ensures goes_on { GoesOn (D.past disk.old) (D.past disk.new) }
     ensures tidy { OnOk result (Told (D.past disk.old) IsTidy → Told (D.past disk.new) IsTidy) }
     ensures first { (r : Receipted) → IfSome (C.lists chronicle.old) (StartsWith r) → IfSome (C.lists chronicle.new) (StartsWith r) }
+    ensures owed { IfSome (C.lists chronicle.old) (AreOwedToSteps config.now) → IfSome (C.lists chronicle.new) (AreOwedAtOpening config.now) }
 {
     let first = tail.file.id;
     roll_back(disk, chronicle, config, table, pool, tail, txs)?;
@@ -113,6 +115,8 @@ pub fn start<D: Disk, C: Chronicle>(
     ensures failed_spent { OnErr result (IfSome (C.lists chronicle.new) (λ l. AreSpentAtLast [] l.steps)) }
     ensures unnoted { IfSome (C.lists chronicle.new) (λ l. l.receipts ≡ [] → IsBlank l) }
     ensures begins { IfSome (C.lists chronicle.new) (λ l. BeginsBySyncs l.receipts (D.past disk.old) (D.past disk.new)) }
+    ensures owed { IfSome (C.lists chronicle.new) (AreOwedAtOpening config.now) }
+    ensures ends { IfOk result (λ s. IfSome (C.lists chronicle.new) (λ l. end_of_tail s.tail ≡ end_of (history_of l.steps))) }
 {
     let Ok(buffer) = TimedBuffer::new(alloc, config.buffer_size, config.buffer_timeout) else {
         return Err(OpenFault::NoMemory);

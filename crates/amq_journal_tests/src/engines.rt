@@ -193,6 +193,7 @@ pub const ROWS: &[Row] = &[
         receipt: Some(Receipted {
             durable: 1,
             moment: 11,
+            steps: 1,
         }),
         ..ROW
     },
@@ -210,6 +211,7 @@ pub const ROWS: &[Row] = &[
         receipt: Some(Receipted {
             durable: 1,
             moment: 11,
+            steps: 1,
         }),
         ..ROW
     },
@@ -227,6 +229,7 @@ pub const ROWS: &[Row] = &[
         receipt: Some(Receipted {
             durable: 2,
             moment: 13,
+            steps: 2,
         }),
         ..ROW
     },
@@ -248,6 +251,7 @@ pub const ROWS: &[Row] = &[
         receipt: Some(Receipted {
             durable: 2,
             moment: 13,
+            steps: 2,
         }),
         ..ROW
     },
@@ -265,6 +269,7 @@ pub const ROWS: &[Row] = &[
         receipt: Some(Receipted {
             durable: 2,
             moment: 13,
+            steps: 2,
         }),
         ..ROW
     },
@@ -282,6 +287,7 @@ pub const ROWS: &[Row] = &[
         receipt: Some(Receipted {
             durable: 2,
             moment: 13,
+            steps: 2,
         }),
         ..ROW
     },
@@ -418,6 +424,7 @@ pub const ROWS: &[Row] = &[
         receipt: Some(Receipted {
             durable: 1,
             moment: 11,
+            steps: 1,
         }),
         crashes: &[(Pick::Keep, 2), (Pick::Revert, 1), (Pick::Fill(0), 1)],
         ..ROW

@@ -12,6 +12,7 @@ use Rattle.amq_engine.specs.Opening.{HasBase, AreFirstRollbacks, HasOpenCause}
 use Rattle.amq_engine.proofs.Begun.{IsNoted, noted, noted_safe, base_now, begun_valid, blank_safe, still_blank, noted_steps, noted_base, noted_unblank, noted_rollbacks, noted_begins, noted_lists, told_begun, behind_fault, when_fine}
 use Rattle.amq_engine.proofs.Commanding.{when_err}
 use Rattle.amq_engine.proofs.Beginning.{begins_blank}
+use Rattle.amq_engine.proofs.Owing.{first_owed, blank_owed}
 use Rattle.amq_engine.proofs.opening.begin.Goals as goal
 
 -- where nothing was noted the chronicle is blank
@@ -268,3 +269,25 @@ returns-in-Err-clause-rollbacks g c =
     ∙ ap (λ (b : List Placed). option_map (with_receipt 0 m) (option_map (with_base b) (lists c.args.chronicle.now))) c.replace-base.ensures.value in
     let notes : IfSome (lists c.note.new.chronicle) (IsNoted loaded.base m) = noted loaded.base m (lists c.args.chronicle.now) (lists c.note.new.chronicle) c.requires.blank is in
     noted_rollbacks loaded.base m (lists c.note.new.chronicle) notes c.args.config.now (length loaded.files) loaded.highest_file (g.D.Disk.past c.args.disk.now) c.in_ok-loaded.ensures.numbers
+
+pub returns-in-Ok-clause-owed : goal.returns-in-Ok-clause-owed
+returns-in-Ok-clause-owed g c =
+    let lists = g.C.Chronicle.lists in
+    first_owed c.args.config.now c.replace-base.result c.moment.result (lists c.args.chronicle.now) (lists c.note.new.chronicle) c.requires.blank
+    (when_fine c.note.result (lists c.note.new.chronicle ≡ option_map (with_receipt 0 c.moment.result) (option_map (with_base c.replace-base.result) (lists c.args.chronicle.now))) (sym c.is_err.ensures.value ∙ c.if-is_err.false) c.note.ensures.ok)
+
+pub returns-in-Err-clause-owed : goal.returns-in-Err-clause-owed
+returns-in-Err-clause-owed g c =
+    let lists = g.C.Chronicle.lists in
+    first_owed c.args.config.now c.replace-base.result c.moment.result (lists c.args.chronicle.now) (lists c.note.new.chronicle) c.requires.blank
+    (when_fine c.note.result (lists c.note.new.chronicle ≡ option_map (with_receipt 0 c.moment.result) (option_map (with_base c.replace-base.result) (lists c.args.chronicle.now))) (sym c.is_err.ensures.value ∙ c.if-is_err.false) c.note.ensures.ok)
+
+pub returns-in_err-loaded-clause-owed : goal.returns-in_err-loaded-clause-owed
+returns-in_err-loaded-clause-owed g c =
+    let lists = g.C.Chronicle.lists c.args.chronicle.now in
+    blank_owed c.args.config.now lists lists refl c.requires.blank
+
+pub returns-then-is_err-clause-owed : goal.returns-then-is_err-clause-owed
+returns-then-is_err-clause-owed g c =
+    let lists = g.C.Chronicle.lists in
+    blank_owed c.args.config.now (lists c.args.chronicle.now) (lists c.note.new.chronicle) (when_err c.note.result (lists c.note.new.chronicle ≡ lists c.args.chronicle.now) (sym c.is_err.ensures.value ∙ c.if-is_err.true) c.note.ensures.err) c.requires.blank

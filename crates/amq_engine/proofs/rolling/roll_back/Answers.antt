@@ -1,12 +1,14 @@
 use Rattle.std.proofs.Common.{◌≡◌, ℕ, List, [], length, slice_get, refl, sym, ap, subst, ◌∙◌, arith}
-use Rattle.std.specs.Prelude.{take}
+use Rattle.std.specs.Prelude.{take, IfSome}
 use Rattle.std.proofs.lemmas.Option.{slice_get-get_or}
 use Rattle.amq_model.specs.declared.history.Step.{Step}
 use Rattle.amq_model.specs.Answers.{history_of}
 use Rattle.amq_tx.specs.Tables.{state_of}
 use Rattle.amq_engine.specs.Engine.{rolling, IsValid, end_of_tail}
 use Rattle.amq_engine.specs.Opening.{EndsIn, rollbacks_behind}
+use Rattle.amq_engine.specs.Owed.{AreOwedAtOpening}
 use Rattle.amq_engine.proofs.Receipts.{if_some}
+use Rattle.amq_engine.proofs.Started.{on_err}
 use Rattle.amq_engine.proofs.GoingOn.{goes_still, goes_through}
 use Rattle.amq_engine.proofs.Rollbacks.{ArePlaced, placed_next, placed_front, steps_so}
 use Rattle.amq_engine.proofs.rolling.roll_back.Goals as goal
@@ -32,6 +34,7 @@ loop-done-init g c =
       tidy = λ tidy. tidy;
       first = λ r starts. starts;
       goes = goes_still (g.D.Disk.past c.args.disk.now);
+      owed = λ all. all;
     }
 
 pub roll_back_next-requires-clause-valid : goal.roll_back_next-requires-clause-valid
@@ -63,6 +66,7 @@ loop-done-preserved g c =
       tidy = λ tidy. c.in_ok-roll_back_next.ensures.tidy (c.loop-done.invariant.tidy tidy);
       first = λ r starts. c.roll_back_next.ensures.first r (c.loop-done.invariant.first r starts);
       goes = goes_through (g.D.Disk.past c.args.disk.now) (g.D.Disk.past c.loop-done.disk) (g.D.Disk.past c.roll_back_next.new.disk) c.loop-done.invariant.goes c.roll_back_next.ensures.goes_on;
+      owed = λ all. c.in_ok-roll_back_next.ensures.owed (c.loop-done.invariant.owed all);
     }
 
 pub returns-clause-ok : goal.returns-clause-ok
@@ -94,3 +98,9 @@ returns-in_err-roll_back_next-clause-placed g c =
     let before = g.C.Chronicle.lists c.loop-done.chronicle in
     steps_so P before (g.C.Chronicle.lists c.roll_back_next.new.chronicle) c.in_err-roll_back_next.ensures.unstepped
     (if_some (λ l. ArePlaced c.args.config.now first c.args.txs.now c.loop-done.done l.steps) (λ l. P l.steps) before (λ l are. placed_front c.args.config.now first c.args.txs.now c.loop-done.done l.steps are) c.loop-done.invariant.placed)
+
+pub returns-in_err-roll_back_next-clause-failed_owed : goal.returns-in_err-roll_back_next-clause-failed_owed
+returns-in_err-roll_back_next-clause-failed_owed g c all = on_err _ (IfSome (g.C.Chronicle.lists c.roll_back_next.new.chronicle) (AreOwedAtOpening c.args.config.now)) (c.in_err-roll_back_next.ensures.failed_owed (c.loop-done.invariant.owed all))
+
+pub returns-clause-owed : goal.returns-clause-owed
+returns-clause-owed g c all = c.loop-done.invariant.owed all

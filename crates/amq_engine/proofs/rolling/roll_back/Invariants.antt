@@ -10,6 +10,7 @@ use Rattle.amq_engine.specs.Receipts.{GoesOn, StartsWith}
 use Rattle.amq_engine.specs.Engine.{rolling, IsValid, end_of_tail}
 use Rattle.amq_engine.specs.Opening.{EndsIn}
 use Rattle.amq_engine.proofs.Rollbacks.{ArePlaced}
+use Rattle.amq_engine.specs.Owed.{AreOwedToSteps}
 use Rattle.amq_engine.proofs.rolling.roll_back.Given as goal
 
 abbrev pub invariant-loop-done : goal.invariant-loop-done
@@ -27,4 +28,5 @@ invariant-loop-done g l = record {
   tidy : Told (g.D.Disk.past l.fn.disk) IsTidy → Told (g.D.Disk.past l.disk) IsTidy;
   first : (r : Receipted) → IfSome (g.C.Chronicle.lists l.fn.chronicle) (StartsWith r) → IfSome (g.C.Chronicle.lists l.chronicle) (StartsWith r);
   goes : GoesOn (g.D.Disk.past l.fn.disk) (g.D.Disk.past l.disk);
+  owed : IfSome (g.C.Chronicle.lists l.fn.chronicle) (AreOwedToSteps l.fn.config) → IfSome (g.C.Chronicle.lists l.chronicle) (AreOwedToSteps l.fn.config);
 }

@@ -14,11 +14,13 @@ use Rattle.amq_engine.specs.declared.tail.Tail.{Tail}
 use Rattle.amq_pool.specs.Pools.{ids_of}
 use Rattle.amq_engine.specs.Lists.{Lists, with_step, steps_in}
 use Rattle.amq_engine.specs.Engine.{rolling, IsValid, end_of_tail, passes, spent, refused, flushes, placed_behind}
-use Rattle.amq_engine.specs.Opening.{NeedsFile, rollback_behind}
+use Rattle.amq_engine.specs.Opening.{NeedsFile, rollback_behind, EndsIn}
+use Rattle.amq_model.specs.Answers.{history_of}
 use Rattle.amq_engine.proofs.Sound.{sound_there, sound_within}
 use Rattle.amq_engine.proofs.Commanding.{when_ok, few_appends, count_fits, put_fits, valid_room}
 use Rattle.amq_engine.proofs.RollingBack.{accepts_next, refused_spent, roll_spent, rolled_ends, valid_rolled}
 use Rattle.amq_engine.proofs.GoingOn.{goes_still}
+use Rattle.amq_engine.proofs.Owing.{owed_in_opening, owed_same, owed_failed, owed_rolled}
 use Rattle.amq_engine.proofs.Beginning.{starts_same, starts_failed, starts_step, starts_receipted}
 use Rattle.amq_engine.proofs.Rollbacks.{placed_is, same_steps, steps_failed, steps_more}
 use Rattle.amq_engine.proofs.rolling.roll_back_next.Goals as goal
@@ -194,3 +196,40 @@ returns-clause-stepped g c =
       placed,
       steps_more x (lists c.ready.new.chronicle) (lists c.step.new.self) c.step.ensures.noted ∙ ap (option_map (λ (ss : List Step). ss ++ x ∷ [])) same,
     )
+
+pub returns-then-is_err-clause-failed_owed : goal.returns-then-is_err-clause-failed_owed
+returns-then-is_err-clause-failed_owed g c all = owed_in_opening c.args.config.now (g.C.Chronicle.lists c.args.chronicle.now) (g.C.Chronicle.lists c.make_room.new.chronicle) c.make_room.ensures.lists all
+
+pub returns-then-is_some-clause-failed_owed : goal.returns-then-is_some-clause-failed_owed
+returns-then-is_some-clause-failed_owed g c all = owed_in_opening c.args.config.now (g.C.Chronicle.lists c.args.chronicle.now) (g.C.Chronicle.lists c.make_room.new.chronicle) c.make_room.ensures.lists all
+
+pub returns-in-Err-clause-failed_owed : goal.returns-in-Err-clause-failed_owed
+returns-in-Err-clause-failed_owed g c all =
+    let lists = g.C.Chronicle.lists in
+    let room = g.C.Chronicle.receipt_room in
+    let e = c.args in
+    let past = g.D.Disk.past e.disk.now in
+    let moment = g.D.Disk.moment e.disk.now in
+    let table = state_of e.table.now in
+    let stage = rolling c.requires.valid.0 e.done in
+    let v : IsValid stage past moment (lists c.make_room.new.chronicle) (room c.make_room.new.chronicle) e.config.now table e.pool.now e.tail.now =
+    valid_room stage past moment (lists e.chronicle.now) (lists c.make_room.new.chronicle) (room e.chronicle.now) (room c.make_room.new.chronicle) e.config.now table e.pool.now e.tail.now c.make_room.ensures.lists c.make_room.ensures.room c.requires.valid.1 in
+    owed_failed e.config.now past moment (room c.make_room.new.chronicle) table e.pool.now e.tail.now stage (c.passes-moves.result ≡ true) (e.pool.now.prepared ≡ []) moment c.ready.new.tail (lists c.make_room.new.chronicle) (lists c.ready.new.chronicle) c.in-Err.ensures.err v
+    (owed_same e.config.now (lists e.chronicle.now) (lists c.make_room.new.chronicle) c.make_room.ensures.lists all)
+
+pub returns-clause-owed : goal.returns-clause-owed
+returns-clause-owed g c all =
+    let lists = g.C.Chronicle.lists in
+    let room = g.C.Chronicle.receipt_room in
+    let e = c.args in
+    let past = g.D.Disk.past e.disk.now in
+    let moment = g.D.Disk.moment e.disk.now in
+    let table = state_of e.table.now in
+    let stage = rolling c.requires.valid.0 e.done in
+    let v : IsValid stage past moment (lists c.make_room.new.chronicle) (room c.make_room.new.chronicle) e.config.now table e.pool.now e.tail.now =
+    valid_room stage past moment (lists e.chronicle.now) (lists c.make_room.new.chronicle) (room e.chronicle.now) (room c.make_room.new.chronicle) e.config.now table e.pool.now e.tail.now c.make_room.ensures.lists c.make_room.ensures.room c.requires.valid.1 in
+    let ends : e.tail.now.end + length c.bytes.result.now ≡ end_of_tail e.tail.now = ap (λ (l : List ℕ). e.tail.now.end + length l) c.bytes.ensures in
+    let moves : c.passes-moves.result ≡ passes e.config.now.file_size (end_of_tail e.tail.now) (Some 18) = c.passes-moves.ensures ∙ ap (λ (n : ℕ). passes e.config.now.file_size n (Some 18)) ends in
+    owed_rolled e.config.now past moment (room c.make_room.new.chronicle) table e.pool.now e.tail.now stage c.passes-moves.result _ e.tx _ (lists c.make_room.new.chronicle) (lists c.ready.new.chronicle) (lists c.step.new.self) c.in_default.ensures.receipt moves refl tt c.step.ensures.noted
+    (subst (λ (o : Option Lists). IfSome o (λ l. (first : ℕ) × EndsIn first (history_of l.steps) e.tail.now.file.id (end_of_tail e.tail.now))) (sym c.make_room.ensures.lists) c.requires.ended) v
+    (owed_same e.config.now (lists e.chronicle.now) (lists c.make_room.new.chronicle) c.make_room.ensures.lists all)

@@ -1,5 +1,5 @@
 use Rattle.std.proofs.Common.{◌≡◌, ℕ, List, ◌+◌, ◌-◌, ◌^◌, length, sym, ap, ◌∙◌}
-use Rattle.std.specs.Prelude.{min, take}
+use Rattle.std.specs.Prelude.{min, take, is_ok, is_some}
 use Rattle.amq_model.specs.declared.history.Step.{Step}
 use Rattle.amq_model.specs.Answers.{history_of}
 use Rattle.amq_tx.specs.Tables.{state_of}
@@ -11,6 +11,8 @@ use Rattle.amq_engine.proofs.Started.{filled_by}
 use Rattle.amq_engine.proofs.Rollbacks.{same_steps, steps_so}
 use Rattle.amq_engine.proofs.GoingOn.{goes_through}
 use Rattle.amq_engine.proofs.Beginning.{starts_receipted}
+use Rattle.amq_engine.proofs.Noting.{both_true}
+use Rattle.amq_engine.proofs.Owing.{owed_at_end}
 use Rattle.amq_engine.proofs.starting.complete.Goals as goal
 
 pub write_out-requires-clause-there : goal.write_out-requires-clause-there
@@ -101,3 +103,24 @@ returns-in-Ok-clause-all g c =
     let lists = g.C.Chronicle.lists in
     let P : List Step → Type 0 = λ ss. length ss ≡ length c.args.txs.now in
     steps_so P (lists c.roll_back.new.chronicle) (lists c.write_out.new.chronicle) (same_steps _ c.roll_back.new.tail.appended _ (lists c.roll_back.new.chronicle) (lists c.write_out.new.chronicle) c.write_out.ensures.receipt) c.in_ok-roll_back.ensures.all
+
+pub returns-in-Err-clause-owed : goal.returns-in-Err-clause-owed
+returns-in-Err-clause-owed g c all =
+    let lists = g.C.Chronicle.lists in
+    let v = c.in_ok-roll_back.ensures.ok c.requires.valid.0 c.requires.valid.2 c.requires.valid.1 in
+    owed_at_end c.args.config.now (g.D.Disk.past c.roll_back.new.disk) (g.D.Disk.moment c.roll_back.new.disk) (g.C.Chronicle.receipt_room c.roll_back.new.chronicle) (state_of c.roll_back.new.table) c.roll_back.new.pool c.roll_back.new.tail _
+    _ _ (lists c.roll_back.new.chronicle) (lists c.write_out.new.chronicle) (λ both. (both_true (is_ok c.write_out.result) (is_some c.roll_back.new.tail.buffer.since) both).1) c.write_out.ensures.receipt v (c.in_ok-roll_back.ensures.owed all)
+
+pub returns-in-Err-fill_pool-clause-owed : goal.returns-in-Err-fill_pool-clause-owed
+returns-in-Err-fill_pool-clause-owed g c all =
+    let lists = g.C.Chronicle.lists in
+    let v = c.in_ok-roll_back.ensures.ok c.requires.valid.0 c.requires.valid.2 c.requires.valid.1 in
+    owed_at_end c.args.config.now (g.D.Disk.past c.roll_back.new.disk) (g.D.Disk.moment c.roll_back.new.disk) (g.C.Chronicle.receipt_room c.roll_back.new.chronicle) (state_of c.roll_back.new.table) c.roll_back.new.pool c.roll_back.new.tail _
+    _ _ (lists c.roll_back.new.chronicle) (lists c.write_out.new.chronicle) (λ both. (both_true (is_ok c.write_out.result) (is_some c.roll_back.new.tail.buffer.since) both).1) c.write_out.ensures.receipt v (c.in_ok-roll_back.ensures.owed all)
+
+pub returns-in-Ok-clause-owed : goal.returns-in-Ok-clause-owed
+returns-in-Ok-clause-owed g c all =
+    let lists = g.C.Chronicle.lists in
+    let v = c.in_ok-roll_back.ensures.ok c.requires.valid.0 c.requires.valid.2 c.requires.valid.1 in
+    owed_at_end c.args.config.now (g.D.Disk.past c.roll_back.new.disk) (g.D.Disk.moment c.roll_back.new.disk) (g.C.Chronicle.receipt_room c.roll_back.new.chronicle) (state_of c.roll_back.new.table) c.roll_back.new.pool c.roll_back.new.tail _
+    _ _ (lists c.roll_back.new.chronicle) (lists c.write_out.new.chronicle) (λ both. (both_true (is_ok c.write_out.result) (is_some c.roll_back.new.tail.buffer.since) both).1) c.write_out.ensures.receipt v (c.in_ok-roll_back.ensures.owed all)

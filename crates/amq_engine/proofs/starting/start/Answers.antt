@@ -3,17 +3,18 @@ use Rattle.std.specs.Prelude.{Err, IfErr, IfSome, min, take}
 use Rattle.amq_model.specs.declared.history.Step.{Step}
 use Rattle.amq_model.specs.Answers.{history_of}
 use Rattle.amq_model.specs.Effect.{result_of}
-use Rattle.amq_model.specs.Legal.{rolled_back, AreLegalOfRefused}
+use Rattle.amq_model.specs.Legal.{rolled_back, AreLegalOfRefused, end_of}
 use Rattle.amq_tx.specs.Tables.{state_of}
 use Rattle.amq_model.specs.Leaves.{Told}
 use Rattle.amq_engine.specs.Engine.{end_of_tail, IsBlank, AreSpentAtLast}
-use Rattle.amq_engine.specs.Opening.{HasBase, AreFirstRollbacks, HasOpenCause, rollbacks_behind}
+use Rattle.amq_engine.specs.Opening.{HasBase, AreFirstRollbacks, HasOpenCause, rollbacks_behind, EndsIn}
 use Rattle.amq_engine.specs.Receipts.{IsCrashSafe}
 use Rattle.amq_engine.proofs.Receipts.{if_some}
 use Rattle.amq_engine.proofs.Found.{syncs_none}
 use Rattle.amq_engine.proofs.OpeningCalls.{no_calls}
 use Rattle.amq_engine.proofs.Stages.{valid_opened}
 use Rattle.amq_engine.proofs.Beginning.{begins_blank, begins_through}
+use Rattle.amq_engine.proofs.Owing.{owed_in_opening, blank_owed}
 use Rattle.amq_engine.proofs.RollingBack.{rolled_safe}
 use Rattle.amq_engine.proofs.Begun.{still_blank}
 use Rattle.amq_engine.proofs.Rollbacks.{both_so, placed_all, told_rollbacks}
@@ -180,3 +181,24 @@ pub returns-in_default-clause-failed_spent : goal.returns-in_default-clause-fail
 returns-in_default-clause-failed_spent g c =
     let lists = g.C.Chronicle.lists c.args.chronicle.now in
     still_blank (λ l. AreSpentAtLast [] l.steps) lists lists refl (λ l blank. subst (λ (ss : List Step). AreSpentAtLast [] ss) (sym blank.1) tt) c.requires.blank
+
+pub returns-in_default-clause-owed : goal.returns-in_default-clause-owed
+returns-in_default-clause-owed g c =
+    let lists = g.C.Chronicle.lists c.args.chronicle.now in
+    owed_in_opening c.args.config.now lists lists refl (blank_owed c.args.config.now lists lists refl c.requires.blank)
+
+pub returns-in_err-table-clause-owed : goal.returns-in_err-table-clause-owed
+returns-in_err-table-clause-owed g c =
+    let lists = g.C.Chronicle.lists c.begin.new.chronicle in
+    owed_in_opening c.args.config.now lists lists refl c.begin.ensures.owed
+
+pub returns-in_err-complete-clause-owed : goal.returns-in_err-complete-clause-owed
+returns-in_err-complete-clause-owed g c = c.complete.ensures.owed c.begin.ensures.owed
+
+pub returns-clause-owed : goal.returns-clause-owed
+returns-clause-owed g c = c.complete.ensures.owed c.begin.ensures.owed
+
+pub returns-clause-ends : goal.returns-clause-ends
+returns-clause-ends g c =
+    let t = c.complete.new.tail in
+    if_some (λ l. EndsIn c.in_ok-table.field-0.file.id (history_of l.steps) t.file.id (end_of_tail t)) (λ l. end_of_tail t ≡ end_of (history_of l.steps)) (g.C.Chronicle.lists c.complete.new.chronicle) (λ l ends. ends.1) c.in_ok-complete.ensures.ends

@@ -1,5 +1,5 @@
-use Rattle.std.proofs.Common.{ap, subst, ◌∙◌}
-use Rattle.std.specs.Prelude.{IfSome}
+use Rattle.std.proofs.Common.{◌<◌, ap, subst, ◌∙◌}
+use Rattle.std.specs.Prelude.{IfSome, IsSome}
 use Rattle.amq_tx.specs.Tables.{state_of}
 use Rattle.amq_engine.specs.Receipts.{GoesOn}
 use Rattle.amq_engine.specs.Engine.{opened, IsChronicle}
@@ -7,6 +7,7 @@ use Rattle.amq_engine.proofs.Sound.{sound_there, sound_within}
 use Rattle.amq_engine.proofs.Flushing.{written_durable, seen_flushed}
 use Rattle.amq_engine.proofs.Commanding.{valid_chronicle}
 use Rattle.amq_engine.proofs.GoingOn.{goes_still}
+use Rattle.amq_engine.proofs.Owing.{more_appended}
 use Rattle.amq_engine.proofs.engine.Engine.flush.Goals as goal
 
 pub returns-in-Some-clause-chronicle : goal.returns-in-Some-clause-chronicle
@@ -65,3 +66,36 @@ returns-in-Ok-clause-goes_on g c = subst (λ v. GoesOn (g.D.Disk.past v.disk) (g
 
 pub returns-in-Err-clause-goes_on : goal.returns-in-Err-clause-goes_on
 returns-in-Err-clause-goes_on g c = subst (λ v. GoesOn (g.D.Disk.past v.disk) (g.D.Disk.past c.write_out.new.disk)) c.self.view_is c.write_out.ensures.goes_on
+
+pub returns-in-Some-clause-waits : goal.returns-in-Some-clause-waits
+returns-in-Some-clause-waits g c =
+    let e = c.self.inside in
+    subst (λ v. IsSome v.since → v.durable < v.appended) c.self.view_is (more_appended e.config (state_of e.table) e.pool e.tail c.self.invariant.sound.parts)
+
+pub returns-in-Some-clause-told : goal.returns-in-Some-clause-told
+returns-in-Some-clause-told g c =
+    let e = c.self.inside in
+    subst (λ v. IfSome (g.C.Chronicle.lists v.chronicle) (IsChronicle (g.D.Disk.past v.disk) (g.D.Disk.moment v.disk) v.config v.appended v.durable)) c.self.view_is
+    (valid_chronicle (g.D.Disk.past e.disk) (g.D.Disk.moment e.disk) (g.C.Chronicle.lists e.chronicle) (g.C.Chronicle.receipt_room e.chronicle) e.config (state_of e.table) e.pool e.tail c.self.invariant)
+
+pub returns-in-Ok-clause-waits : goal.returns-in-Ok-clause-waits
+returns-in-Ok-clause-waits g c =
+    let e = c.self.inside in
+    subst (λ v. IsSome v.since → v.durable < v.appended) c.self.view_is (more_appended e.config (state_of e.table) e.pool e.tail c.self.invariant.sound.parts)
+
+pub returns-in-Ok-clause-told : goal.returns-in-Ok-clause-told
+returns-in-Ok-clause-told g c =
+    let e = c.self.inside in
+    subst (λ v. IfSome (g.C.Chronicle.lists v.chronicle) (IsChronicle (g.D.Disk.past v.disk) (g.D.Disk.moment v.disk) v.config v.appended v.durable)) c.self.view_is
+    (valid_chronicle (g.D.Disk.past e.disk) (g.D.Disk.moment e.disk) (g.C.Chronicle.lists e.chronicle) (g.C.Chronicle.receipt_room e.chronicle) e.config (state_of e.table) e.pool e.tail c.self.invariant)
+
+pub returns-in-Err-clause-waits : goal.returns-in-Err-clause-waits
+returns-in-Err-clause-waits g c =
+    let e = c.self.inside in
+    subst (λ v. IsSome v.since → v.durable < v.appended) c.self.view_is (more_appended e.config (state_of e.table) e.pool e.tail c.self.invariant.sound.parts)
+
+pub returns-in-Err-clause-told : goal.returns-in-Err-clause-told
+returns-in-Err-clause-told g c =
+    let e = c.self.inside in
+    subst (λ v. IfSome (g.C.Chronicle.lists v.chronicle) (IsChronicle (g.D.Disk.past v.disk) (g.D.Disk.moment v.disk) v.config v.appended v.durable)) c.self.view_is
+    (valid_chronicle (g.D.Disk.past e.disk) (g.D.Disk.moment e.disk) (g.C.Chronicle.lists e.chronicle) (g.C.Chronicle.receipt_room e.chronicle) e.config (state_of e.table) e.pool e.tail c.self.invariant)

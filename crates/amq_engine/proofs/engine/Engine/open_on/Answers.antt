@@ -26,3 +26,12 @@ returns-in-Ok-clause-tidy g c = c.in-Ok.ensures.tidy
 
 pub returns-in-Ok-clause-begins : goal.returns-in-Ok-clause-begins
 returns-in-Ok-clause-begins g c = c.start.ensures.begins
+
+pub returns-in-Ok-clause-owed : goal.returns-in-Ok-clause-owed
+returns-in-Ok-clause-owed g c = c.start.ensures.owed
+
+pub returns-in-Ok-clause-ends : goal.returns-in-Ok-clause-ends
+returns-in-Ok-clause-ends g c = c.in-Ok.ensures.ends
+
+pub returns-in-Err-clause-failed_owed : goal.returns-in-Err-clause-failed_owed
+returns-in-Err-clause-failed_owed g c = c.start.ensures.owed
