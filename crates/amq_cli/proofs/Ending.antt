@@ -1,6 +1,6 @@
 -- How a replay goes on by a line, and how it ends.
 use Rattle.std.proofs.Common.{◌≡◌, ◌⊎◌, inl, inr, ℕ, ◌<◌, ◌≤◌, Bool, true, false, List, [], ◌∷◌, ◌++◌, length, map, Option, None, Some, refl, sym, ap, subst, ◌∙◌, append_assoc, arith}
-use Rattle.std.specs.Prelude.{All, Err, reverse}
+use Rattle.std.specs.Prelude.{All, Err, IsTrue, reverse}
 use Rattle.std.proofs.lemmas.List.{append-nil, length-append, length-map, length-take, map-append, take-append-le, take_all, reverse-append}
 use Rattle.std.proofs.lemmas.List.Elements.{All-head, All-tail}
 use Rattle.std.proofs.lemmas.Grind.{flat_map-append}
@@ -15,7 +15,15 @@ use Rattle.amq_engine.specs.declared.chronicle.Receipted.{Receipted}
 use Rattle.amq_engine.specs.Engine.{EngineOf, is_noted, IsFlushRefusal}
 use Rattle.amq_cli.specs.Offline.{lists_of}
 use Rattle.amq_cli.specs.Replay.{Answered, line_of, reply_lines, AreAnswered, AreLineAnswers, HasEnded, HasReplayed, IsLast}
+use Rattle.amq_engine.specs.Lists.{Lists}
+use Rattle.amq_model.specs.declared.config.Config.{Config}
+use Rattle.amq_model.specs.Answers.{history_of}
+use Rattle.amq_engine.specs.Receipts.{IsLastCount}
+use Rattle.amq_engine.specs.Owed.{BeginOwed}
+use Rattle.amq_engine.proofs.Owing.{begin_weaker, begin_snoc}
+use Rattle.amq_cli.specs.Owed.{IsOwedSoFar, IsOwed, is_opened, HasOwed}
 use Rattle.amq_cli.specs.Playing.{Grows, HasNoStep, IsPlaying, HasPlayed, AreNumbersOf}
+use Rattle.amq_cli.proofs.Owing.{ticks_grown, opened_more}
 use Rattle.amq_cli.proofs.Answering.{more_receipts}
 
 -- a refusal that isn't an answer, of a journal that isn't closed
@@ -51,24 +59,26 @@ lines_more : (answered : List Answered) (x : Answered) → reply_lines (answered
 lines_more answered x = flat_map-append line_of answered (x ∷ []) ∙ ap (λ (t : List ℕ). reply_lines answered ++ t) (append-nil (line_of x))
 
 -- with more receipts
-pub answered_more : (timeout : ℕ) (lines : List Line) (steps steps' : List Step) (receipts receipts' : List Receipted) (answered : List Answered) → steps' ≡ steps → Grows receipts receipts' → AreAnswered timeout lines steps receipts answered → AreAnswered timeout lines steps' receipts' answered
-answered_more timeout lines steps steps' receipts receipts' answered same grows are = subst (λ ss. AreAnswered timeout lines ss receipts' answered) (sym same) (record {
+pub answered_more : (timeout : ℕ) (lines : List Line) (durable appended : ℕ) (old new : Lists) (answered : List Answered) → HasNoStep durable appended old new → AreAnswered timeout lines old.steps old.receipts answered → AreAnswered timeout lines new.steps new.receipts answered
+answered_more timeout lines durable appended old new answered kept are = subst (λ ss. AreAnswered timeout lines ss new.receipts answered) (sym kept.steps) (record {
   front = are.front;
   commands = are.commands;
   numbered = are.numbered;
-  receipted = λ k d lt. more_receipts receipts receipts' grows _ (are.receipted k d lt);
+  receipted = λ k d lt. more_receipts durable appended old new kept.receipts _ (are.receipted k d lt);
   answers = are.answers;
+  ticks = ticks_grown timeout durable appended old new answered are.commands kept.receipts are.ticks;
 })
 
 module _ {D : Type 0} (timeout : ℕ) where
   -- what was played is a front of any script that goes on with these lines
-  are_answered : (done more : List Line) (number : ℕ) (answered : List Answered) (e : EngineOf D Kept) → map (λ x. x.0) answered ≡ done → IsPlaying timeout answered number e → AreAnswered timeout (done ++ more) e.chronicle.steps.items e.chronicle.receipts.items answered
+  pub are_answered : (done more : List Line) (number : ℕ) (answered : List Answered) (e : EngineOf D Kept) → map (λ x. x.0) answered ≡ done → IsPlaying timeout answered number e → AreAnswered timeout (done ++ more) e.chronicle.steps.items e.chronicle.receipts.items answered
   are_answered done more number answered e lines playing = record {
     front = lines ∙ sym (take_all (length answered) done (omega (arith, long))) ∙ sym (take-append-le (length answered) done more (omega (arith, long)));
     commands = playing.steps.commands;
     numbered = playing.steps.numbered;
     receipted = playing.numbers.receipted;
     answers = subst (λ (n : ℕ). AreLineAnswers n timeout [] answered) (sym playing.steps.rolls) playing.answers;
+    ticks = playing.ticks;
   } where
     long : length answered ≡ length done
     long = sym (length-map answered (λ (x : Answered). x.0)) ∙ ap length lines
@@ -102,13 +112,13 @@ module _ {D : Type 0} (timeout : ℕ) where
       }
 
   -- a line ended the replay
-  pub line_refused : (done : List Line) (line : Line) (labels : List ℕ → ℕ) (number : ℕ) (old new : EngineOf D Kept) (before after ending : List ℕ) (short : Bool) → HasPlayed timeout done labels number old before → HasNoStep (lists_of old.chronicle) (lists_of new.chronicle) → after ≡ before ++ ending
+  pub line_refused : (done : List Line) (line : Line) (labels : List ℕ → ℕ) (number : ℕ) (old new : EngineOf D Kept) (before after ending : List ℕ) (short : Bool) → HasPlayed timeout done labels number old before → HasNoStep old.durable old.appended (lists_of old.chronicle) (lists_of new.chronicle) → after ≡ before ++ ending
       → HasEnded timeout (done ++ line ∷ []) new.chronicle.steps.items new.chronicle.receipts.items after ending short
   line_refused done line labels number old new before after ending short was kept is =
       let are = are_answered done (line ∷ []) number was.answered old was.lines was.playing in
       record {
         answered = was.answered;
-        are = answered_more timeout (done ++ line ∷ []) _ _ _ _ was.answered kept.steps kept.receipts are;
+        are = answered_more timeout (done ++ line ∷ []) old.durable old.appended (lists_of old.chronicle) (lists_of new.chronicle) was.answered kept are;
         rest = [];
         is = append-nil after ∙ is ∙ ap (λ (t : List ℕ). t ++ ending) was.is;
         whole = inr refl;
@@ -145,6 +155,7 @@ ended_more timeout front more steps receipts text ending short e =
         numbered = e.are.numbered;
         receipted = e.are.receipted;
         answers = e.are.answers;
+        ticks = e.are.ticks;
       };
       rest = e.rest;
       is = e.is;
@@ -154,6 +165,72 @@ ended_more timeout front more steps receipts text ending short e =
       by : (short ≡ true) ⊎ (length e.answered < length front) → (short ≡ true) ⊎ (length e.answered < length (front ++ more))
       by (inl memory) = inl memory
       by (inr lt) = inr (omega (arith, lt, length-append front more))
+
+-- the same of what is owed
+pub owed_front : (config : Config) (front more : List Line) (steps : List Step) (receipts : List Receipted) → HasOwed config front steps receipts → HasOwed config (front ++ more) steps receipts
+owed_front config front more steps receipts o =
+    let long : length o.answered ≤ length front = omega (arith, sym (length-map o.answered (λ (x : Answered). x.0)), ap length o.are.front, length-take (length o.answered) front) in
+    record {
+      answered = o.answered;
+      are = record {
+        front = o.are.front ∙ sym (take-append-le (length o.answered) front more long);
+        commands = o.are.commands;
+        numbered = o.are.numbered;
+        receipted = o.are.receipted;
+        answers = o.are.answers;
+        ticks = o.are.ticks;
+      };
+      owed = o.owed;
+      opened = o.opened;
+    }
+
+-- each receipt of a replay under way is owed
+pub played_owed : {D : Type 0} (timeout : ℕ) (done more : List Line) (number : ℕ) (answered : List Answered) (e : EngineOf D Kept) → map (λ x. x.0) answered ≡ done → IsPlaying timeout answered number e → HasOwed e.config (done ++ more) e.chronicle.steps.items e.chronicle.receipts.items
+played_owed timeout done more number answered e lines playing =
+    let steps = e.chronicle.steps.items in
+    record {
+      answered = answered;
+      are = subst (λ (t : ℕ). AreAnswered t (done ++ more) steps e.chronicle.receipts.items answered) playing.time (are_answered timeout done more number answered e lines playing);
+      owed = begin_weaker (IsOwedSoFar e.config answered steps) (IsOwed e.config answered steps) steps steps e.chronicle.receipts.items (λ r c. c) (λ n r c o. inl o) playing.owing.owed;
+      opened = inr playing.owing.begun;
+    }
+
+-- a further receipt behind all steps is owed
+pub owed_more : (config : Config) (lines : List Line) (durable appended : ℕ) (old new : Lists) → IsLastCount durable old.receipts → appended ≡ length (history_of old.steps) → HasNoStep durable appended old new → HasOwed config lines old.steps old.receipts → HasOwed config lines new.steps new.receipts
+owed_more config lines durable appended old new last history kept o = record {
+  answered = o.answered;
+  are = answered_more config.buffer_timeout lines durable appended old new o.answered kept o.are;
+  owed = subst (λ (ss : List Step). BeginOwed (IsOwed config o.answered ss) ss new.receipts) (sym kept.steps) (owed_by kept.receipts);
+  opened = subst (λ (ss : List Step). (o.answered ≡ []) ⊎ IsTrue (is_opened ss new.receipts)) (sym kept.steps) (opened_by kept.receipts o.opened);
+} where
+  owed_by : Grows durable appended old new → BeginOwed (IsOwed config o.answered old.steps) old.steps new.receipts
+  owed_by (inl same) = subst (BeginOwed (IsOwed config o.answered old.steps) old.steps) (sym same) o.owed
+  owed_by (inr one) = subst (BeginOwed (IsOwed config o.answered old.steps) old.steps) (sym one.1)
+      (begin_snoc (IsOwed config o.answered old.steps) old.steps durable old.receipts one.0 last (omega (arith, one.3, one.4)) (record { before = old.steps; behind = []; is = sym (append-nil old.steps); place = one.2; count = one.3 ∙ history }) (inr one.2) o.owed)
+
+  opened_by : Grows durable appended old new → (o.answered ≡ []) ⊎ IsTrue (is_opened old.steps old.receipts) → (o.answered ≡ []) ⊎ IsTrue (is_opened old.steps new.receipts)
+  opened_by grows (inl none) = inl none
+  opened_by (inl same) (inr is) = inr (subst (λ (rs : List Receipted). IsTrue (is_opened old.steps rs)) (sym same) is)
+  opened_by (inr one) (inr is) = inr (subst (λ (rs : List Receipted). IsTrue (is_opened old.steps rs)) (sym one.1) (opened_more old.steps old.receipts one.0 is))
+
+-- a line that ended the replay left each receipt owed
+pub refused_owed : {D : Type 0} (timeout : ℕ) (done : List Line) (line : Line) (labels : List ℕ → ℕ) (number : ℕ) (old new : EngineOf D Kept) (text : List ℕ) → HasPlayed timeout done labels number old text → HasNoStep old.durable old.appended (lists_of old.chronicle) (lists_of new.chronicle)
+    → HasOwed old.config (done ++ line ∷ []) new.chronicle.steps.items new.chronicle.receipts.items
+refused_owed timeout done line labels number old new text was kept =
+    owed_more old.config (done ++ line ∷ []) old.durable old.appended (lists_of old.chronicle) (lists_of new.chronicle) was.playing.owing.last was.playing.owing.history kept (played_owed timeout done (line ∷ []) number was.answered old was.lines was.playing)
+
+-- one that was answered, without its text
+pub unwritten_owed : {D : Type 0} (timeout : ℕ) (done : List Line) (line : Line) (answer : Option Answer) (labels labels' : List ℕ → ℕ) (number number' : ℕ) (old new : EngineOf D Kept) (text : List ℕ) → HasPlayed timeout done labels number old text → new.config ≡ old.config
+    → ((answered : List Answered) → AreNumbersOf labels answered → IsPlaying timeout answered number old → IsPlaying timeout (answered ++ (line, answer) ∷ []) number' new × AreNumbersOf labels' (answered ++ (line, answer) ∷ [])) → HasOwed old.config (done ++ line ∷ []) new.chronicle.steps.items new.chronicle.receipts.items
+unwritten_owed timeout done line answer labels labels' number number' old new text was config goes =
+    let all : List Answered = was.answered ++ (line, answer) ∷ [] in
+    let lines : map (λ (x : Answered). x.0) all ≡ done ++ line ∷ [] = map-append (λ (x : Answered). x.0) was.answered ((line, answer) ∷ []) ∙ ap (λ (ls : List Line). ls ++ line ∷ []) was.lines in
+    subst (λ (k : Config). HasOwed k (done ++ line ∷ []) new.chronicle.steps.items new.chronicle.receipts.items) config
+    (subst (λ (ls : List Line). HasOwed new.config ls new.chronicle.steps.items new.chronicle.receipts.items) (append-nil (done ++ line ∷ [])) (played_owed timeout (done ++ line ∷ []) [] number' all new lines (goes was.answered was.labelled was.playing).0))
+
+-- all lines were answered
+pub all_owed : {D : Type 0} (timeout : ℕ) (done : List Line) (labels : List ℕ → ℕ) (number : ℕ) (e : EngineOf D Kept) (text : List ℕ) → HasPlayed timeout done labels number e text → HasOwed e.config done e.chronicle.steps.items e.chronicle.receipts.items
+all_owed timeout done labels number e text p = subst (λ (ls : List Line). HasOwed e.config ls e.chronicle.steps.items e.chronicle.receipts.items) (append-nil done) (played_owed timeout done [] number p.answered e p.lines p.playing)
 
 -- what is so of all lines is so of the last one
 pub last_of_all : {X : Type 0} (P : X → Type 0) (xs : List X) (x : X) → All P (xs ++ x ∷ []) → P x

@@ -1,5 +1,6 @@
 pub mod Pieces
 pub mod Playing
+pub mod Owing
 pub mod Answering
 pub mod Ending
 pub mod Running
@@ -8,6 +9,7 @@ pub mod Outputs
 pub mod Loading
 pub mod Labelling
 pub mod ReplayExamples
+pub mod OwedExamples
 pub mod Recovering
 pub mod Beginning
 pub mod Digits

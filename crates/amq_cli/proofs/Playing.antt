@@ -211,7 +211,7 @@ commanded_one_more before (y ∷ ys) x =
       by cs ds (Some c) = refl
 
 -- a producer's step behind the others
-own_more : (steps : List Step) (s : Step) → s.seat ≡ 1 → (own (steps ++ s ∷ []) ≡ own steps ++ s ∷ []) × (rolled (steps ++ s ∷ []) ≡ rolled steps)
+pub own_more : (steps : List Step) (s : Step) → s.seat ≡ 1 → (own (steps ++ s ∷ []) ≡ own steps ++ s ∷ []) × (rolled (steps ++ s ∷ []) ≡ rolled steps)
 own_more steps s seat =
     let here : own (s ∷ []) ≡ s ∷ [] = ap (λ (n : ℕ). if not (n == 0) then s ∷ [] else []) seat in
     let none : rolled (s ∷ []) ≡ [] = ap (λ (n : ℕ). if n == 0 then s ∷ [] else []) seat in (

@@ -12,11 +12,11 @@ use Rattle.amq_model.specs.declared.history.Answer.{Answer}
 use Rattle.amq_model.specs.declared.history.Answer.TheVariants.{Done}
 use Rattle.amq_model.specs.declared.history.Step.{Step}
 use Rattle.amq_engine.specs.declared.chronicle.Receipted.{Receipted}
-use Rattle.amq_cli.specs.Replay.{Answered, placed_at, reply_lines, IsTicked, IsReceipted, AreAnswered, HasEnded, all_commanded, line_of, IsLineAnswer}
+use Rattle.amq_cli.specs.Replay.{IsOld, IsTickCount, Answered, placed_at, reply_lines, IsTicked, IsReceipted, AreAnswered, HasEnded, all_commanded, line_of, IsLineAnswer}
 
 -- ---- the lines
 
-abbrev add : Command
+abbrev pub add : Command
 add = c.Add 1 7 []
 
 abbrev update : Command
@@ -90,35 +90,57 @@ the_rollback_is_durable h = let least : 1 ≤ 0 = h.least in omega (arith, least
 
 -- ---- three lines and their steps
 
-abbrev lines : List Line
+abbrev pub lines : List Line
 lines = l.Plain add ∷ l.Tick 3 ∷ l.Plain (c.Delete 1) ∷ []
 
-abbrev answered : List Answered
+abbrev pub answered : List Answered
 answered = appended add 0 ∷ durable 3 1 ∷ appended (c.Delete 1) 1 ∷ []
 
-abbrev first : Step
+abbrev pub first : Step
 first = record { seat = 1; number = 1; command = add; answer = Done (Appended 0); placed = Some (record { file = 1; place = 16; compact = 0; rec = rec.Add 1 7 [] }) }
 
-abbrev second : Step
+abbrev pub second : Step
 second = record { seat = 1; number = 2; command = c.Delete 1; answer = Done (Appended 1); placed = Some (record { file = 1; place = 39; compact = 0; rec = rec.Delete 1 }) }
 
-abbrev receipts : List Receipted
+abbrev pub receipts : List Receipted
 receipts = record { durable = 0; moment = 5; steps = 0 } ∷ record { durable = 1; moment = 7; steps = 1 } ∷ record { durable = 2; moment = 9; steps = 2 } ∷ []
+
+-- the append of place 0 is 3 old at a tick of 3
+pub three_old : IsOld 3 (appended add 0 ∷ []) 3 0
+three_old = record { front = []; line = appended add 0; back = []; is = refl; placed = refl; old = omega arith }
+
+pub two_young : IsOld 3 (appended add 0 ∷ []) 2 0 → ⊥
+two_young h = let old = h.old in omega (arith, old)
+
+-- so the tick of 3 counts what the second receipt does
+pub counted_by_the_tick : IsTickCount 3 0 (appended add 0 ∷ []) 3 1 receipts
+counted_by_the_tick = inr (inr (inr (refl, three_old)), inl (refl, omega arith))
+
+-- behind the step that comes next it would be counted with it
+pub counted_before_a_step : IsTickCount 3 0 (appended add 0 ∷ appended (c.Delete 1) 1 ∷ []) 0 1 receipts
+counted_before_a_step = inr (inr (inl (omega arith)), inl (refl, omega arith))
+
+-- a tick of 2 doesn't
+pub counted_too_early : IsTickCount 3 0 (appended add 0 ∷ []) 2 1 receipts → ⊥
+counted_too_early (inl (same, later)) = omega (arith, same)
+counted_too_early (inr (inl opening, rest)) = omega (arith, opening)
+counted_too_early (inr (inr (inl before), rest)) = omega (arith, before)
+counted_too_early (inr (inr (inr (here, old)), rest)) = two_young old
 
 -- the tick is no step
 pub three_lines : AreAnswered 3 lines (first ∷ second ∷ []) receipts answered
-three_lines = record { front = refl; commands = refl; numbered = (refl, refl, (refl, refl, tt)); receipted = All-cons (IsReceipted receipts) 1 [] refl (All-nil (IsReceipted receipts)); answers = (tt, (ticked, (tt, tt))) } where
+three_lines = record { front = refl; commands = refl; numbered = (refl, refl, (refl, refl, tt)); receipted = All-cons (IsReceipted receipts) 1 [] refl (All-nil (IsReceipted receipts)); answers = (tt, (ticked, (tt, tt))); ticks = (tt, (counted_by_the_tick, (tt, tt))) } where
   ticked : IsTicked 0 3 (appended add 0 ∷ []) 3 1
   ticked = record { within = omega arith; least = omega arith; rising = All-nil (λ c. c ≤ 1); young = λ front x back is place. absurd (one_of (λ y. placed_at y ≡ Some 1 → ⊥) front x back (subst (All (λ y. placed_at y ≡ Some 1 → ⊥)) is each) place) } where
     each : All (λ y. placed_at y ≡ Some 1 → ⊥) (appended add 0 ∷ [])
     each = All-cons (λ y. placed_at y ≡ Some 1 → ⊥) (appended add 0) [] (not_at 0 1 (omega arith)) (All-nil (λ y. placed_at y ≡ Some 1 → ⊥))
 
 -- behind a rollback of the opening the first append has the place 1
-abbrev rollback : Step
+abbrev pub rollback : Step
 rollback = record { seat = 0; number = 1; command = c.Rollback 5; answer = Done (Appended 0); placed = Some (record { file = 2; place = 16; compact = 0; rec = rec.Rollback 5 }) }
 
 pub behind_a_rollback : AreAnswered 3 (l.Plain add ∷ []) (rollback ∷ record first { answer = Done (Appended 1) } ∷ []) receipts (appended add 1 ∷ [])
-behind_a_rollback = record { front = refl; commands = refl; numbered = (refl, refl, tt); receipted = All-nil (IsReceipted receipts); answers = (tt, tt) }
+behind_a_rollback = record { front = refl; commands = refl; numbered = (refl, refl, tt); receipted = All-nil (IsReceipted receipts); answers = (tt, tt); ticks = (tt, tt) }
 
 pub the_rollback_is_no_line : AreAnswered 3 (l.Plain (c.Rollback 5) ∷ []) (rollback ∷ []) receipts (appended (c.Rollback 5) 0 ∷ []) → ⊥
 the_rollback_is_no_line h = let n : ◌≡◌ {A = ℕ} 0 1 = ap length h.commands in omega (arith, n)
@@ -145,7 +167,7 @@ cut_short = record { answered = answered; are = three_lines; rest = codes "able 
 
 -- the first two lines were answered
 two_lines : AreAnswered 3 lines (first ∷ []) receipts (appended add 0 ∷ durable 3 1 ∷ [])
-two_lines = record { front = refl; commands = refl; numbered = (refl, refl, tt); receipted = three_lines.receipted; answers = (three_lines.answers.0, (three_lines.answers.1.0, tt)) }
+two_lines = record { front = refl; commands = refl; numbered = (refl, refl, tt); receipted = three_lines.receipted; answers = (three_lines.answers.0, (three_lines.answers.1.0, tt)); ticks = (tt, (counted_by_the_tick, tt)) }
 
 -- a disk call failed at the third one
 pub ended_by_a_disk_call : HasEnded 3 lines (first ∷ []) receipts (codes "ok 0\ndurable 1\nrefused Disk WriteAt\n") (codes "refused Disk WriteAt\n") false

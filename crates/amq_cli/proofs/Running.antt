@@ -27,18 +27,25 @@ use Rattle.amq_cli.specs.declared.status.Status.{Status}
 use Rattle.amq_cli.specs.declared.status.Status.TheVariants as s
 use Rattle.amq_cli.specs.Statuses.{status_of, status_of_opening}
 use Rattle.amq_cli.specs.Playing.{HasPlayed}
-use Rattle.amq_cli.specs.Offline.{HasText, HasRunOn, IsEnding, IsDiskLine, IsLoadedState, AreAll, HasDiskCause, HasRunCause, is_of_refused}
+use Rattle.amq_cli.specs.Offline.{lists_of, HasText, HasRunOn, IsEnding, IsDiskLine, IsLoadedState, AreAll, HasDiskCause, HasRunCause, is_of_refused}
 use Rattle.amq_cli.specs.Replay.{Answered, reply_lines, AreAnswered, AreNumbered, HasEnded, HasReplayed, IsLast, IsClosedBy, is_for_memory, own, rolled}
 use Rattle.amq_cli.proofs.Answering.{no_step, last_receipted}
+use Rattle.std.specs.List.{list_any}
+use Rattle.amq_model.specs.Legal.{end_of}
+use Rattle.amq_engine.specs.Owed.{waiting_behind, IsOwedAtOpening, AreOwedAtOpening}
+use Rattle.amq_engine.proofs.Owing.{begin_weaker}
+use Rattle.amq_cli.specs.Owed.{IsOwedSoFar, IsOwed, HasOwed}
+use Rattle.amq_cli.specs.Playing.{IsOwing}
+use Rattle.amq_cli.proofs.Owing.{waiting_none, counts_opening, begun_counts}
 use Rattle.amq_cli.proofs.Ending.{answered_more}
 
-module _ (timeout : ℕ) (lines : List Line) (old new : Lists) (b : Bool) (appended moment : ℕ) (closed : Some new ≡ receipted b appended moment (Some old)) where
+module _ (timeout : ℕ) (lines : List Line) (old new : Lists) (b : Bool) (durable appended moment : ℕ) (more : b ≡ true → durable < appended) (closed : Some new ≡ receipted b appended moment (Some old)) where
   -- the same behind the flush at closing
   pub replayed_closed : (text : List ℕ) → HasReplayed timeout lines old.steps old.receipts text → HasReplayed timeout lines new.steps new.receipts text
-  replayed_closed text replayed = let n = no_step b appended moment old new closed in record { answered = replayed.answered; are = answered_more timeout lines old.steps new.steps old.receipts new.receipts replayed.answered n.steps n.receipts replayed.are; all = replayed.all; is = replayed.is }
+  replayed_closed text replayed = let n = no_step b durable appended moment old new more closed in record { answered = replayed.answered; are = answered_more timeout lines durable appended old new replayed.answered n replayed.are; all = replayed.all; is = replayed.is }
 
   pub ended_closed : (text ending : List ℕ) (short : Bool) → HasEnded timeout lines old.steps old.receipts text ending short → HasEnded timeout lines new.steps new.receipts text ending short
-  ended_closed text ending short ended = let n = no_step b appended moment old new closed in record { answered = ended.answered; are = answered_more timeout lines old.steps new.steps old.receipts new.receipts ended.answered n.steps n.receipts ended.are; rest = ended.rest; is = ended.is; whole = ended.whole; early = ended.early }
+  ended_closed text ending short ended = let n = no_step b durable appended moment old new more closed in record { answered = ended.answered; are = answered_more timeout lines durable appended old new ended.answered n ended.are; rest = ended.rest; is = ended.is; whole = ended.whole; early = ended.early }
 
 -- Nothing stands behind the lines of all.
 silent_ends : (status : Status) (Loaded : LoadState → Type 0) (was now : Faults) (lines : List Line) (answered : List Answered) → AreAll lines answered → (status ≡ s.DiskFault) ⊎ (status ≡ s.NoMemory) → IsEnding status Loaded was now lines answered []
@@ -199,8 +206,24 @@ opens_partly n (tx ∷ txs) (x ∷ xs) opens =
       ap (λ (k : ℕ). if k == 0 then x ∷ rolled xs else rolled xs) seat ∙ ap (λ (ss : List Step). x ∷ ss) rest.1,
     )
 
-none_answered : (timeout : ℕ) (lines : List Line) (steps : List Step) (receipts : List Receipted) → own steps ≡ [] → AreAnswered timeout lines steps receipts []
-none_answered timeout lines steps receipts none = record { front = refl; commands = ap (map (λ (s : Step). (s.command, s.answer))) none; numbered = subst (AreNumbered 1) (sym none) tt; receipted = λ k d lt. absurd (omega (arith, lt)); answers = tt }
+pub none_answered : (timeout : ℕ) (lines : List Line) (steps : List Step) (receipts : List Receipted) → own steps ≡ [] → AreAnswered timeout lines steps receipts []
+none_answered timeout lines steps receipts none = record { front = refl; commands = ap (map (λ (s : Step). (s.command, s.answer))) none; numbered = subst (AreNumbered 1) (sym none) tt; receipted = λ k d lt. absurd (omega (arith, lt)); answers = tt; ticks = tt }
+
+-- what an opening that was refused noted is owed
+pub unopened_owed : (config : Config) (lines : List Line) (l : Lists) → own l.steps ≡ [] → AreOwedAtOpening config l → HasOwed config lines l.steps l.receipts
+unopened_owed config lines l none owed = record {
+  answered = [];
+  are = none_answered config.buffer_timeout lines l.steps l.receipts none;
+  owed = begin_weaker (IsOwedAtOpening config l.steps) (IsOwed config [] l.steps) l.steps l.steps l.receipts (λ r c. c) (λ n r c o. by r o) owed;
+  opened = inl refl;
+} where
+  by : {n : ℕ} (r : Receipted) → IsOwedAtOpening config l.steps n r → IsOwed config [] l.steps n r
+  by r (inl behind) = inr behind
+  by r (inr o) = inl (inr (inl o))
+
+-- where nothing was opened nothing is owed
+pub nothing_owed : (config : Config) (lines : List Line) (steps : List Step) (receipts : List Receipted) → steps ≡ [] → receipts ≡ [] → HasOwed config lines steps receipts
+nothing_owed config lines steps receipts bare blank = subst (λ (ss : List Step). HasOwed config lines ss receipts) (sym bare) (subst (HasOwed config lines []) (sym blank) (record { answered = []; are = none_answered config.buffer_timeout lines [] [] refl; owed = tt; opened = inl refl }))
 
 -- where the journal wasn't opened
 pub unopened_text : (timeout : ℕ) (status : Status) (Loaded : LoadState → Type 0) (lines : List Line) (was now : Faults) (steps : List Step) (receipts : List Receipted) (text : List ℕ) → own steps ≡ [] → text ≡ [] → IsEnding status Loaded was now lines [] [] → HasText timeout status Loaded lines was now steps receipts text
@@ -228,10 +251,25 @@ opening_refused (o.Directory fault) = refl
 opening_refused (o.FileIdsSpent highest) = refl
 opening_refused o.NotBuilt = refl
 
+-- what the opening noted is owed, and its last receipt counts all its appends
+begun_owing : (config : Config) (l : Lists) (appended durable waiting end : ℕ) → rolled l.steps ≡ l.steps → durable ≡ appended → waiting ≡ 0 → appended ≡ length (history_of l.steps) → IsLastCount durable l.receipts → end ≡ end_of (history_of l.steps) → AreOwedAtOpening config l → IsOwing appended [] config l appended durable waiting end
+begun_owing config l appended durable waiting end all same none history last ends owed = record {
+  history = history;
+  waits = none ∙ sym (waiting_none (history_of l.steps)) ∙ ap (λ (n : ℕ). waiting_behind n (history_of l.steps)) (sym (same ∙ history));
+  ends = ends;
+  last = last;
+  each = λ place least most. absurd (omega (arith, least, most));
+  owed = begin_weaker (IsOwedAtOpening config l.steps) (IsOwedSoFar config [] l.steps) l.steps l.steps l.receipts (λ r c. c) (λ n r c o. so_far r o) owed;
+  begun = subst (λ (ss : List Step). list_any (counts_opening ss) l.receipts ≡ true) (sym all) (begun_counts (IsOwedAtOpening config l.steps) l.steps durable l.receipts (same ∙ history) owed last);
+} where
+  so_far : {n : ℕ} (r : Receipted) → IsOwedAtOpening config l.steps n r → IsOwedSoFar config [] l.steps n r
+  so_far r (inl behind) = inl (behind ∙ ap (λ (ss : List Step). length ss) (sym all))
+  so_far r (inr o) = inr (inl o)
+
 -- of an engine that was just opened
-pub begun_played : {D : Type 0} (timeout : ℕ) (e : EngineOf D Kept) (base : List Placed) (text : List ℕ) → e.durable ≡ e.appended → e.since ≡ None → e.clock ≡ 0 → e.appended ≡ length (history_of e.chronicle.steps.items) → AreRolledBack base e.chronicle.steps.items → IsLastCount e.durable e.chronicle.receipts.items → text ≡ []
-    → HasPlayed timeout [] (λ label. 0) 1 e text
-begun_played timeout e base text durable since clock history rolls last empty =
+pub begun_played : {D : Type 0} (timeout : ℕ) (e : EngineOf D Kept) (base : List Placed) (text : List ℕ) → timeout ≡ e.config.buffer_timeout → e.durable ≡ e.appended → e.waiting ≡ 0 → e.since ≡ None → e.clock ≡ 0 → e.appended ≡ length (history_of e.chronicle.steps.items) → AreRolledBack base e.chronicle.steps.items → IsLastCount e.durable e.chronicle.receipts.items
+    → e.end ≡ end_of (history_of e.chronicle.steps.items) → AreOwedAtOpening e.config (lists_of e.chronicle) → text ≡ [] → HasPlayed timeout [] (λ label. 0) 1 e text
+begun_played timeout e base text time durable waiting since clock history rolls last ends owed empty =
     let steps : List Step = e.chronicle.steps.items in
     let opens = opens_partly 1 (rolled_back base) steps rolls.2 in
     record {
@@ -258,6 +296,9 @@ begun_played timeout e base text durable since clock history rolls last empty =
           next = sym (ap (λ (ss : List Step). length ss + 1) opens.0);
         };
         answers = tt;
+        time = time;
+        ticks = tt;
+        owing = begun_owing e.config (lists_of e.chronicle) e.appended e.durable e.waiting e.end opens.1 durable waiting history last ends owed;
       };
       labelled = λ label. refl;
       is = empty;

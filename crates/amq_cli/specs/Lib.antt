@@ -8,4 +8,5 @@ pub mod Labelled
 pub mod Outcomes
 pub mod Script
 pub mod Offline
+pub mod Owed
 pub mod Report

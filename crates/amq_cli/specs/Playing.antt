@@ -1,5 +1,5 @@
 -- What is so of a replay under way.
-use Rattle.std.specs.Prelude.{◌≡◌, ◌⊎◌, ◌↔◌, ℕ, ◌+◌, ◌<◌, ◌≤◌, List, [], ◌∷◌, ◌++◌, length, map, Option, None, Some, All}
+use Rattle.std.specs.Prelude.{◌≡◌, ◌⊎◌, ◌↔◌, ℕ, ◌+◌, ◌<◌, ◌≤◌, IsTrue, List, [], ◌∷◌, ◌++◌, length, map, Option, None, Some, All}
 use Rattle.std.specs.List.{filter_map}
 use Rattle.amq_model.specs.declared.script.Line.{Line}
 use Rattle.amq_model.specs.declared.history.Step.{Step}
@@ -7,21 +7,35 @@ use Rattle.amq_engine.specs.declared.chronicle.Kept.{Kept}
 use Rattle.amq_engine.specs.declared.chronicle.Receipted.{Receipted}
 use Rattle.amq_engine.specs.Lists.{Lists}
 use Rattle.amq_engine.specs.Engine.{EngineOf}
-use Rattle.amq_engine.specs.Receipts.{StartsWith}
-use Rattle.amq_cli.specs.Replay.{Answered, all_commanded, label_number, placed_at, counted, clock_of, reply_lines, AreLineAnswers, AreNumbered, IsReceipted, own, opened_in}
+use Rattle.amq_engine.specs.Receipts.{StartsWith, IsLastCount}
+use Rattle.amq_engine.specs.Owed.{waiting_behind, BeginOwed}
+use Rattle.amq_model.specs.declared.config.Config.{Config}
+use Rattle.amq_model.specs.Answers.{history_of}
+use Rattle.amq_model.specs.Legal.{end_of}
+use Rattle.amq_cli.specs.Offline.{lists_of}
+use Rattle.amq_cli.specs.Owed.{IsOwedSoFar, is_opened}
+use Rattle.amq_cli.specs.Replay.{Answered, all_commanded, label_number, placed_at, counted, clock_of, reply_lines, AreLineAnswers, AreNumbered, AreTicksCounted, IsReceipted, own, opened_in, rolled}
 
--- the same receipts, or one more
-abbrev pub Grows : List Receipted → List Receipted → Type 0
-Grows old new = (new ≡ old) ⊎ ((r : Receipted) × (new ≡ old ++ r ∷ []))
+-- Of so many appends, of which so many were durable: the same receipts, or one more, of all appends, behind the steps so far.
+abbrev pub Grows : ℕ → ℕ → Lists → Lists → Type 0
+Grows durable appended old new = (new.receipts ≡ old.receipts) ⊎ ((r : Receipted) × (new.receipts ≡ old.receipts ++ r ∷ []) × (r.steps ≡ length old.steps) × (r.durable ≡ appended) × (durable < appended))
 
 -- What a call leaves in the chronicle that ends a replay: no step more. It may have made appends durable before it failed.
-pub record HasNoStep (old new : Lists) : Type 0 where
+pub record HasNoStep (durable appended : ℕ) (old new : Lists) : Type 0 where
   pub steps : new.steps ≡ old.steps
-  pub receipts : Grows old.receipts new.receipts
+  pub receipts : Grows durable appended old new
 
 -- the first receipt stays the first
 abbrev pub KeepsFirst : Lists → Lists → Type 0
 KeepsFirst old new = (r : Receipted) → StartsWith r old → StartsWith r new
+
+-- the append of this place is one of these lines'
+pub record IsPlacedIn (answered : List Answered) (place : ℕ) : Type 0 where
+  pub front : List Answered
+  pub line : Answered
+  pub back : List Answered
+  pub is : answered ≡ front ++ line ∷ back
+  pub placed : placed_at line ≡ Some place
 
 -- The numbers of the engine behind the appends of its opening and these lines: its clock, how many appends there were and how many are durable, and since when the first of the others waits.
 pub record AreNumbers (opened : ℕ) (answered : List Answered) (receipts : List Receipted) (clock appended durable : ℕ) (since : Option ℕ) : Type 0 where
@@ -43,12 +57,25 @@ pub record AreSteps (opened : ℕ) (answered : List Answered) (steps : List Step
   pub numbered : AreNumbered 1 (own steps)
   pub next : number ≡ length (own steps) + 1
 
+-- The numbers of the engine are those of its chronicle: the bytes that wait, and where the last append ends. Each append behind those of the opening is one of these lines', and each receipt so far is owed.
+pub record IsOwing (opened : ℕ) (answered : List Answered) (config : Config) (l : Lists) (appended durable waiting end : ℕ) : Type 0 where
+  pub history : appended ≡ length (history_of l.steps)
+  pub waits : waiting ≡ waiting_behind durable (history_of l.steps)
+  pub ends : end ≡ end_of (history_of l.steps)
+  pub last : IsLastCount durable l.receipts
+  pub each : (place : ℕ) → opened ≤ place → place < appended → IsPlacedIn answered place
+  pub owed : BeginOwed (IsOwedSoFar config answered l.steps) l.steps l.receipts
+  pub begun : IsTrue (is_opened l.steps l.receipts)
+
 -- these lines were answered
 pub record IsPlaying {D : Type 0} (timeout : ℕ) (answered : List Answered) (number : ℕ) (e : EngineOf D Kept) : Type 0 where
   pub opened : ℕ
   pub numbers : AreNumbers opened answered e.chronicle.receipts.items e.clock e.appended e.durable e.since
   pub steps : AreSteps opened answered e.chronicle.steps.items number
   pub answers : AreLineAnswers opened timeout [] answered
+  pub time : timeout ≡ e.config.buffer_timeout
+  pub ticks : AreTicksCounted timeout (length (rolled e.chronicle.steps.items)) e.chronicle.receipts.items [] answered
+  pub owing : IsOwing opened answered e.config (lists_of e.chronicle) e.appended e.durable e.waiting e.end
 
 -- each label stands for this number behind these lines
 abbrev pub AreNumbersOf : (List ℕ → ℕ) → List Answered → Type 0

@@ -172,13 +172,52 @@ AreNumbered n (s ∷ ss) = (s.seat ≡ 1) × (s.number ≡ n) × AreNumbered (n 
 abbrev pub IsReceipted : List Receipted → ℕ → Type 0
 IsReceipted receipts count = IsTrue (list_any (λ r. r.durable == count) receipts)
 
--- These lines were answered, the first ones of a script: the steps but those of the opening are those of their commands, in order, each once, with their answers; each count is that of a receipt; and each tick is answered as it may be.
+-- ---- which receipt a tick counts
+
+-- The append of this place came at least the timeout before a tick of this moment behind these lines.
+pub record IsOld (timeout : ℕ) (before : List Answered) (now place : ℕ) : Type 0 where
+  pub front : List Answered
+  pub line : Answered
+  pub back : List Answered
+  pub is : before ≡ front ++ line ∷ back
+  pub placed : placed_at line ≡ Some place
+  pub old : timeout ≤ max (clock_of before) now - clock_of front
+
+-- how many steps there are behind these lines and those of the opening
+abbrev pub steps_behind : ℕ → List Answered → ℕ
+steps_behind opening before = opening + length (all_commanded [] before)
+
+-- A receipt, behind one of so many appends, was noted up to a tick: by the opening, before the last step before the tick, or behind that, since the first append that waits is old.
+abbrev pub IsNotedBy : ℕ → ℕ → List Answered → ℕ → ℕ → Receipted → Type 0
+IsNotedBy timeout opening before now durable r = (r.steps ≤ opening) ⊎ (r.steps < steps_behind opening before) ⊎ ((r.steps ≡ steps_behind opening before) × IsOld timeout before now durable)
+
+-- Behind a receipt of so many appends this is the count of the last receipt that was noted up to then, and none behind that has fewer steps before it.
+abbrev pub IsCountOf : (ℕ → Receipted → Type 0) → ℕ → ℕ → ℕ → List Receipted → Type 0
+IsCountOf IsNoted steps count durable [] = count ≡ durable
+IsCountOf IsNoted steps count durable (r ∷ rs) = ((count ≡ durable) × (steps ≤ r.steps)) ⊎ (IsNoted durable r × IsCountOf IsNoted steps count r.durable rs)
+
+-- A tick counts what the last receipt up to it counts.
+abbrev pub IsTickCount : ℕ → ℕ → List Answered → ℕ → ℕ → List Receipted → Type 0
+IsTickCount timeout opening before now count [] = ⊥
+IsTickCount timeout opening before now count (r ∷ rs) = IsCountOf (IsNotedBy timeout opening before now) (steps_behind opening before) count r.durable rs
+
+-- a line behind others does, if it is a tick
+abbrev pub IsLineCount : ℕ → ℕ → List Receipted → List Answered → Answered → Type 0
+IsLineCount timeout opening receipts before x = elim (ticked x) [ None ↦ Unit {0} | Some now ↦ elim (counted x) [ None ↦ Unit {0} | Some count ↦ IsTickCount timeout opening before now count receipts ] ]
+
+-- each line behind those before it
+abbrev pub AreTicksCounted : ℕ → ℕ → List Receipted → List Answered → List Answered → Type 0
+AreTicksCounted timeout opening receipts before [] = Unit {0}
+AreTicksCounted timeout opening receipts before (x ∷ xs) = IsLineCount timeout opening receipts before x × AreTicksCounted timeout opening receipts (before ++ x ∷ []) xs
+
+-- These lines were answered, the first ones of a script: the steps but those of the opening are those of their commands, in order, each once, with their answers; each count is that of a receipt; each tick is answered as it may be, and counts what the last receipt up to it counts.
 pub record AreAnswered (timeout : ℕ) (lines : List Line) (steps : List Step) (receipts : List Receipted) (answered : List Answered) : Type 0 where
   pub front : map (λ x. x.0) answered ≡ take (length answered) lines
   pub commands : map (λ s. (s.command, s.answer)) (own steps) ≡ all_commanded [] answered
   pub numbered : AreNumbered 1 (own steps)
   pub receipted : All (IsReceipted receipts) (filter_map counted answered)
   pub answers : AreLineAnswers (opened_in steps) timeout [] answered
+  pub ticks : AreTicksCounted timeout (length (rolled steps)) receipts [] answered
 
 -- ---- how a replay ends
 

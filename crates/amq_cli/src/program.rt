@@ -9,6 +9,7 @@ ghost use Rattle.amq_engine.specs.Opening.{HasBase};
 ghost use Rattle.amq_engine.specs.Receipts.{IsCrashSafe, IsLastCount, BeginsBySyncs};
 ghost use Rattle.amq_cli.specs.Words.{asked, prints, reads_script};
 ghost use Rattle.amq_cli.specs.Offline.{lists_of, HasCause, HasLegal, HasRolledBack, HasPlayCause, IsRun, IsPlayed, IsTextOf, IsOutput, IsPrint, IsScript, IsLoadedState, is_before_opening, is_past_script, is_unwritten, defaults, IsWritten};
+ghost use Rattle.amq_cli.specs.Owed.{HasOwed, IsOwedRun};
 ghost use Rattle.amq_cli.specs.Output.{IsPartWritten};
 ghost use Rattle.amq_cli.specs.Replay.{is_built};
 
@@ -67,6 +68,9 @@ pub fn offline<D: Disk, S: Source, K: Sink>(
     ensures rolled { HasRolledBack result.0 result.2.base result.2.steps.items }
     ensures nothing_new { result.2.receipts.items ≡ [] → LeavesNothingNew (D.past disk) (D.past result.1) }
     ensures begins { BeginsBySyncs result.2.receipts.items (D.past disk) (D.past result.1) }
+
+    // When what was durable: to what each receipt is owed.
+    ensures owed { prints (asked words.now) ≡ false → IsOwedRun (asked words.now) defaults result.0 (S.left source.old) (S.left source.new) result.2.steps.items result.2.receipts.items }
 {
     offline_with(alloc, DEFAULTS, words, disk, source, sink)
 }
@@ -114,6 +118,9 @@ pub fn offline_with<D: Disk, S: Source, K: Sink>(
     ensures rolled { HasRolledBack result.0 result.2.base result.2.steps.items }
     ensures nothing_new { result.2.receipts.items ≡ [] → LeavesNothingNew (D.past disk) (D.past result.1) }
     ensures begins { BeginsBySyncs result.2.receipts.items (D.past disk) (D.past result.1) }
+
+    // When what was durable: to what each receipt is owed.
+    ensures owed { prints (asked words.now) ≡ false → IsOwedRun (asked words.now) config result.0 (S.left source.old) (S.left source.new) result.2.steps.items result.2.receipts.items }
 {
     let lines = match task_of(words) {
         Some(Task::Replay) => read_script(alloc, source),
@@ -170,6 +177,7 @@ fn play<D: Disk, K: Sink>(
     ensures rolled { HasRolledBack result.0 result.2.base result.2.steps.items }
     ensures nothing_new { result.2.receipts.items ≡ [] → LeavesNothingNew (D.past disk) (D.past result.1) }
     ensures begins { BeginsBySyncs result.2.receipts.items (D.past disk) (D.past result.1) }
+    ensures owed { HasOwed config lines.items result.2.steps.items result.2.receipts.items }
 {
     let mut text = Vec::new(alloc);
     let (outcome, disk, kept) = run(alloc, config, lines, disk, &mut text);

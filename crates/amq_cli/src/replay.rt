@@ -8,6 +8,7 @@ ghost use Rattle.amq_cli.specs.Offline.{lists_of};
 ghost use Rattle.amq_cli.specs.Replay.{Answered, sent, with_number, begun_number, is_begin, line_of, HasEnded, HasReplayed, IsLast, IsClosedBy, is_built, is_for_memory};
 ghost use Rattle.amq_cli.specs.Labelled.{number_in};
 ghost use Rattle.amq_cli.specs.Outcomes.{answer_in, text_in};
+ghost use Rattle.amq_cli.specs.Owed.{HasOwed};
 ghost use Rattle.amq_cli.specs.Playing.{HasPlayed, HasNoStep, KeepsFirst, IsPlaying, AreNumbersOf};
 
 use crate::labels::Labels;
@@ -40,7 +41,7 @@ fn give<D: Disk>(
     requires open { engine.old.closed ≡ None }
     requires few { number.old < 2 ^ 64 - 1 }
     ensures played { (answered : List Answered) (line : Line) → sent answered line ≡ Some command → IsPlaying engine.old.config.buffer_timeout answered number.old engine.old → IfOk result (λ answer. IsPlaying engine.old.config.buffer_timeout (answered ++ (line, Some answer) ∷ []) number.new engine.new) }
-    ensures kept { OnErr result (HasNoStep (lists_of engine.old.chronicle) (lists_of engine.new.chronicle)) }
+    ensures kept { OnErr result (HasNoStep engine.old.durable engine.old.appended (lists_of engine.old.chronicle) (lists_of engine.new.chronicle)) }
     ensures last { IfErr result IsLast }
     ensures closes { IfErr result (λ refusal. IsClosedBy refusal engine.new.closed) }
     ensures next { number.new ≤ number.old + 1 }
@@ -127,7 +128,7 @@ fn give_labelled<D: Disk>(
     requires open { engine.old.closed ≡ None }
     requires few { number.old < 2 ^ 64 - 1 }
     ensures played { (answered : List Answered) → AreNumbersOf (number_in labels.old) answered → IsPlaying engine.old.config.buffer_timeout answered number.old engine.old → IfOk result (λ answer. IsPlaying engine.old.config.buffer_timeout (answered ++ (Line.Labelled label.now command, Some answer) ∷ []) number.new engine.new × AreNumbersOf (number_in labels.new) (answered ++ (Line.Labelled label.now command, Some answer) ∷ [])) }
-    ensures kept { OnErr result (HasNoStep (lists_of engine.old.chronicle) (lists_of engine.new.chronicle)) }
+    ensures kept { OnErr result (HasNoStep engine.old.durable engine.old.appended (lists_of engine.old.chronicle) (lists_of engine.new.chronicle)) }
     ensures last { IfErr result IsLast }
     ensures closes { IfErr result (λ refusal. IsClosedBy refusal engine.new.closed) }
     ensures next { number.new ≤ number.old + 1 }
@@ -168,7 +169,7 @@ fn answer_line<D: Disk>(
     requires few { number.old < 2 ^ 64 - 1 }
     ensures played { (answered : List Answered) → AreNumbersOf (number_in labels.old) answered → IsPlaying engine.old.config.buffer_timeout answered number.old engine.old → IfOk result (λ outcome. IsPlaying engine.old.config.buffer_timeout (answered ++ (line, answer_in outcome) ∷ []) number.new engine.new × AreNumbersOf (number_in labels.new) (answered ++ (line, answer_in outcome) ∷ [])) }
     ensures text { IfOk result (λ outcome. text_in outcome ≡ line_of (line, answer_in outcome)) }
-    ensures kept { OnErr result (HasNoStep (lists_of engine.old.chronicle) (lists_of engine.new.chronicle)) }
+    ensures kept { OnErr result (HasNoStep engine.old.durable engine.old.appended (lists_of engine.old.chronicle) (lists_of engine.new.chronicle)) }
     ensures last { IfErr result IsLast }
     ensures closes { IfErr result (λ refusal. IsClosedBy refusal engine.new.closed) }
     ensures next { number.new ≤ number.old + 1 }
@@ -232,6 +233,7 @@ fn play_line<D: Disk>(
     requires few { number.old < 2 ^ 64 - 1 }
     ensures played { (done : List Line) → HasPlayed engine.old.config.buffer_timeout done (number_in labels.old) number.old engine.old text.old.items → OnOk result (HasPlayed engine.old.config.buffer_timeout (done ++ line ∷ []) (number_in labels.new) number.new engine.new text.new.items) }
     ensures ended { (done : List Line) → HasPlayed engine.old.config.buffer_timeout done (number_in labels.old) number.old engine.old text.old.items → IfErr result (λ refusal. HasEnded engine.old.config.buffer_timeout (done ++ line ∷ []) engine.new.chronicle.steps.items engine.new.chronicle.receipts.items text.new.items (refusal_line refusal) (is_for_memory refusal)) }
+    ensures owed { (done : List Line) → HasPlayed engine.old.config.buffer_timeout done (number_in labels.old) number.old engine.old text.old.items → OnErr result (HasOwed engine.old.config (done ++ line ∷ []) engine.new.chronicle.steps.items engine.new.chronicle.receipts.items) }
     ensures last { IfErr result IsLast }
     ensures closes { IfErr result (λ refusal. IsClosedBy refusal engine.new.closed) }
     ensures next { number.new ≤ number.old + 1 }
@@ -266,6 +268,7 @@ pub fn replay<D: Disk>(
     requires begun { HasPlayed engine.old.config.buffer_timeout [] (λ label. 0) 1 engine.old text.old.items }
     ensures replayed { OnOk result (HasReplayed engine.old.config.buffer_timeout lines.items engine.new.chronicle.steps.items engine.new.chronicle.receipts.items text.new.items) }
     ensures ended { IfErr result (λ refusal. HasEnded engine.old.config.buffer_timeout lines.items engine.new.chronicle.steps.items engine.new.chronicle.receipts.items text.new.items (refusal_line refusal) (is_for_memory refusal)) }
+    ensures owed { HasOwed engine.old.config lines.items engine.new.chronicle.steps.items engine.new.chronicle.receipts.items }
     ensures last { IfErr result IsLast }
     ensures closes { IfErr result (λ refusal. IsClosedBy refusal engine.new.closed) }
     ensures open { OnOk result (engine.new.closed ≡ None) }

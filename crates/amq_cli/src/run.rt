@@ -8,6 +8,7 @@ ghost use Rattle.amq_engine.specs.Opening.{HasBase};
 ghost use Rattle.amq_model.specs.Leaves.{Leaves, Unchanged, LeavesNothingNew, Told};
 ghost use Rattle.amq_engine.specs.Receipts.{IsCrashSafe, IsLastCount, GoesOn, BeginsBySyncs};
 ghost use Rattle.amq_cli.specs.Offline.{lists_of, HasLegal, HasRolledBack, HasRun, HasRunCause, HasText, IsLoadedState, IsReported, HasRunOn, HasDiskCause, is_unwritten};
+ghost use Rattle.amq_cli.specs.Owed.{HasOwed};
 ghost use Rattle.amq_cli.specs.Playing.{HasPlayed, KeepsFirst};
 ghost use Rattle.amq_cli.specs.Replay.{is_built};
 ghost use Rattle.amq_cli.specs.Statuses.{status_of, status_of_opening};
@@ -48,6 +49,7 @@ pub fn run<D: Disk>(
     ensures rolled { HasRolledBack result.0 result.2.base result.2.steps.items }
     ensures nothing_new { result.2.receipts.items ≡ [] → LeavesNothingNew (D.past disk) (D.past result.1) }
     ensures begins { BeginsBySyncs result.2.receipts.items (D.past disk) (D.past result.1) }
+    ensures owed { HasOwed config lines.items result.2.steps.items result.2.receipts.items }
 {
     let chronicle = Kept::new(alloc);
     match Engine::open_on(alloc, disk, chronicle, config) {
@@ -88,6 +90,7 @@ fn run_on<D: Disk>(
     ensures rolled { AreAppended (length (rolled_back result.2.base)) result.2.steps.items }
     ensures goes_on { GoesOn (D.past engine.disk) (D.past result.1) }
     ensures first { KeepsFirst (lists_of engine.chronicle) (lists_of result.2) }
+    ensures owed { HasOwed engine.config lines.items result.2.steps.items result.2.receipts.items }
 {
     let played = replay(alloc, &mut engine, lines, text);
     let (mut disk, chronicle, closed) = engine.close();

@@ -31,7 +31,7 @@ returns-in-Ok-tick-clause-played g c answered labelled was =
     let timeout = old.config.buffer_timeout in
     let answer : Option Answer = Some (Done (Durable c.in-Ok-tick.count)) in
     let labels = number_in c.args.labels.now in
-    let played = tick_answered timeout answered c.args.number.now old new was c.in-Tick.now c.in-Ok-tick.count (g.D.Disk.moment new.disk) refl c.in-Ok-tick.ensures.count c.in-Ok-tick.ensures.ok c.in-Ok-tick.ensures.receipt c.tick.ensures.chronicle.last in
+    let played = tick_answered timeout answered c.args.number.now old new was c.in-Tick.now c.in-Ok-tick.count (g.D.Disk.moment new.disk) (g.D.Disk.past new.disk) (g.D.Disk.moment new.disk) refl c.in-Ok-tick.ensures.count c.in-Ok-tick.ensures.ok c.in-Ok-tick.ensures.receipt c.tick.ensures.chronicle in
     let numbers = labels_behind labels labels answered (Tick c.in-Tick.now, answer) labelled (λ other. refl) in
     subst (λ (line : Line). IsPlaying timeout (answered ++ (line, answer) ∷ []) c.args.number.now new × AreNumbersOf labels (answered ++ (line, answer) ∷ [])) (sym c.in-Tick.is) (played, numbers)
 

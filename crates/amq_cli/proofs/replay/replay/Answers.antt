@@ -1,7 +1,10 @@
-use Rattle.std.proofs.Common.{◌≡◌, [], ◌∷◌, ◌++◌, All, sym, ap, refl, subst, rules, arith}
+use Rattle.std.proofs.Common.{◌≡◌, List, [], ◌∷◌, ◌++◌, All, sym, ap, refl, subst, ◌∙◌, rules, arith}
 use Rattle.std.proofs.lemmas.Grind.{common_steps}
 use Rattle.std.specs.Prelude.{IsTrue, Err, IfErr, reverse, length}
-use Rattle.std.proofs.lemmas.List.{length-append}
+use Rattle.std.proofs.lemmas.List.{length-append, append-nil}
+use Rattle.amq_model.specs.declared.config.Config.{Config}
+use Rattle.amq_model.specs.declared.script.Line.{Line}
+use Rattle.amq_cli.specs.Owed.{HasOwed}
 use Rattle.std.proofs.lemmas.List.Elements.{All-take}
 use Rattle.amq_cli.specs.Replay.{is_built, is_for_memory, HasEnded}
 use Rattle.amq_model.specs.Texts.{refusal_line}
@@ -10,7 +13,7 @@ use Rattle.amq_cli.specs.Playing.{HasPlayed}
 use Rattle.amq_engine.proofs.GoingOn.{goes_still, goes_through}
 use Rattle.amq_cli.specs.Offline.{lists_of}
 use Rattle.amq_cli.proofs.Beginning.{first_still, first_through}
-use Rattle.amq_cli.proofs.Ending.{one_taken, ended_more, last_of_all, same_labels}
+use Rattle.amq_cli.proofs.Ending.{one_taken, ended_more, last_of_all, same_labels, owed_front, all_owed}
 use Rattle.amq_cli.proofs.replay.replay.Goals as goal
 
 pub loop-line-init : goal.loop-line-init
@@ -80,3 +83,27 @@ returns-in_err-play_line-clause-goes_on g c = goes_through (g.D.Disk.past c.args
 
 pub returns-in_err-play_line-clause-first : goal.returns-in_err-play_line-clause-first
 returns-in_err-play_line-clause-first g c = first_through (lists_of c.args.engine.now.chronicle) (lists_of c.loop-line.engine.chronicle) (lists_of c.play_line.new.engine.chronicle) c.loop-line.invariant.first c.play_line.ensures.first
+
+pub returns-in_err-play_line-clause-owed : goal.returns-in_err-play_line-clause-owed
+returns-in_err-play_line-clause-owed g c =
+    let was = c.loop-line.invariant in
+    let line = c.in-Some.line in
+    let popped : c.loop-line.lines.items ≡ c.pop.new.self.items ++ line ∷ [] = search rules in
+    let played = was.played in
+    let timeout = ap (λ (k : Config). k.buffer_timeout) was.config in
+    let steps = c.play_line.new.engine.chronicle.steps.items in
+    let receipts = c.play_line.new.engine.chronicle.receipts.items in
+    let owed = c.in_err-play_line.ensures.owed played.0 (subst (λ t. HasPlayed t played.0 (number_in c.loop-line.labels) c.loop-line.number c.loop-line.engine c.loop-line.text.items) (sym timeout) played.2) in
+    let all = one_taken c.args.lines.items played.0 c.loop-line.lines.items c.pop.new.self.items line popped played.1 in
+    subst (λ ls. HasOwed c.args.engine.now.config ls steps receipts) all
+    (owed_front c.args.engine.now.config (played.0 ++ line ∷ []) (reverse c.pop.new.self.items) steps receipts (subst (λ (k : Config). HasOwed k (played.0 ++ line ∷ []) steps receipts) was.config owed))
+
+pub returns-clause-owed : goal.returns-clause-owed
+returns-clause-owed g c =
+    let was = c.loop-line.invariant in
+    let played = was.played in
+    let e = c.loop-line.engine in
+    let none : c.loop-line.lines.items ≡ [] = search rules in
+    let all : played.0 ≡ c.args.lines.items = sym (append-nil played.0) ∙ ap (λ (ls : List Line). played.0 ++ reverse ls) (sym none) ∙ played.1 in
+    subst (λ (k : Config). HasOwed k c.args.lines.items e.chronicle.steps.items e.chronicle.receipts.items) was.config
+    (subst (λ (ls : List Line). HasOwed e.config ls e.chronicle.steps.items e.chronicle.receipts.items) all (all_owed c.args.engine.now.config.buffer_timeout played.0 (number_in c.loop-line.labels) c.loop-line.number e c.loop-line.text.items played.2))

@@ -1,4 +1,4 @@
-use Rattle.std.proofs.Common.{◌≡◌, List, true, [], length, sym, ap, subst, ◌∙◌, rules, arith, inl, inr, ⊎_elim}
+use Rattle.std.proofs.Common.{◌≡◌, List, true, [], length, sym, ap, subst, ◌∙◌, rules, arith, inl, inr, ⊎_elim, refl}
 use Rattle.std.proofs.lemmas.List.{take_all}
 use Rattle.amq_model.specs.declared.history.Step.{Step}
 use Rattle.amq_model.specs.Answers.{history_of}
@@ -7,7 +7,9 @@ use Rattle.amq_cli.specs.Offline.{lists_of, HasRunOn, HasText, IsLoadedState, Is
 use Rattle.amq_cli.specs.declared.status.Status.{Status}
 use Rattle.amq_cli.proofs.Beginning.{begins_run}
 use Rattle.amq_cli.proofs.Recovering.{synced_nothing_new, begins_bare}
-use Rattle.amq_cli.proofs.Running.{begun_played, earlier_text, unopened_text, opening_ends, opening_cause, opening_refused, opens_partly}
+use Rattle.amq_cli.proofs.Running.{begun_played, earlier_text, unopened_text, opening_ends, opening_cause, opening_refused, opens_partly, unopened_owed}
+use Rattle.amq_engine.specs.Owed.{AreOwedAtOpening}
+use Rattle.amq_cli.specs.Owed.{HasOwed}
 use Rattle.amq_model.specs.Legal.{rolled_back}
 use Rattle.amq_cli.proofs.run.run.Goals as goal
 
@@ -15,7 +17,7 @@ pub run_on-requires-clause-begun : goal.run_on-requires-clause-begun
 run_on-requires-clause-begun g c =
     let e = c.in-Ok.engine in
     let o = c.in-Ok.ensures.opened in
-    begun_played e.config.buffer_timeout e e.chronicle.base c.args.text.now.items o.1 o.3 o.4 c.in-Ok.ensures.chronicle.history c.in-Ok.ensures.rolled c.in-Ok.ensures.chronicle.last c.requires.empty
+    begun_played e.config.buffer_timeout e e.chronicle.base c.args.text.now.items refl o.1 o.2 o.3 o.4 c.in-Ok.ensures.chronicle.history c.in-Ok.ensures.rolled c.in-Ok.ensures.chronicle.last c.in-Ok.ensures.ends (subst (λ (k : Config). AreOwedAtOpening k (lists_of e.chronicle)) (sym o.0) c.in-Ok.ensures.owed) c.requires.empty
 
 pub returns-in-Ok-clause-run : goal.returns-in-Ok-clause-run
 returns-in-Ok-clause-run g c = λ done. record {
@@ -70,3 +72,12 @@ pub returns-in-Err-clause-rolled : goal.returns-in-Err-clause-rolled
 returns-in-Err-clause-rolled g c =
     let steps = c.in-Err.field-0.chronicle.steps.items in
     inr (subst (λ s. is_of_refused s ≡ true) (sym c.status_of_opening.ensures) (opening_refused c.in-Err.field-0.fault), ap (λ (ss : List Step). length (history_of ss)) (take_all (length steps) steps (omega arith)) ∙ c.in-Err.ensures.failed_appended)
+
+pub returns-in-Ok-clause-owed : goal.returns-in-Ok-clause-owed
+returns-in-Ok-clause-owed g c = subst (λ (k : Config). HasOwed k c.args.lines.items c.run_on.result.2.steps.items c.run_on.result.2.receipts.items) c.in-Ok.ensures.opened.0 c.run_on.ensures.owed
+
+pub returns-in-Err-clause-owed : goal.returns-in-Err-clause-owed
+returns-in-Err-clause-owed g c =
+    let kept = c.in-Err.field-0.chronicle in
+    let none = (opens_partly 1 (rolled_back kept.base) kept.steps.items c.in-Err.ensures.failed_legal.opening).0 in
+    unopened_owed c.args.config c.args.lines.items (lists_of kept) none c.in-Err.ensures.failed_owed

@@ -1,17 +1,18 @@
 use Rattle.std.proofs.Common.{◌≡◌, ◌⊎◌, inr, ℕ, ◌≤◌, length, sym, ap, subst, ◌∙◌, arith}
-use Rattle.std.specs.Prelude.{IsSome, IfOk}
+use Rattle.std.specs.Prelude.{IsSome, IfOk, is_ok, is_some}
 use Rattle.amq_model.specs.declared.config.Config.{Config}
 use Rattle.amq_model.specs.Answers.{history_of}
-use Rattle.amq_model.specs.Leaves.{Told}
+use Rattle.amq_model.specs.Leaves.{Told, Unchanged}
 use Rattle.amq_engine.specs.Directory.{IsJournal}
-use Rattle.amq_engine.specs.Receipts.{IsCrashSafe}
+use Rattle.amq_engine.specs.Receipts.{IsCrashSafe, GoesOn}
 use Rattle.amq_engine.specs.Engine.{HasCause}
 use Rattle.amq_cli.specs.Statuses.{status_of}
 use Rattle.amq_cli.specs.Offline.{IsReported, HasRunOn, HasText, HasDiskCause, IsLoadedState, lists_of}
 use Rattle.amq_cli.specs.declared.status.Status.TheVariants.{Ok}
-use Rattle.amq_model.specs.Leaves.{Unchanged}
-use Rattle.amq_engine.specs.Receipts.{GoesOn}
 use Rattle.amq_engine.proofs.GoingOn.{goes_by, goes_through}
+use Rattle.amq_engine.proofs.Noting.{both_true}
+use Rattle.amq_cli.proofs.Answering.{no_step}
+use Rattle.amq_cli.proofs.Ending.{owed_more}
 use Rattle.amq_cli.proofs.Beginning.{first_through, first_receipted}
 use Rattle.amq_cli.proofs.Recovering.{safe_still, last_of_all}
 use Rattle.amq_cli.proofs.Loading.{has_run_on, never_done, closed_so}
@@ -29,7 +30,7 @@ returns-clause-run g c =
     elim c.match-played.branch [
       | in-Ok+in-Ok-closed w ↦ (λ done.
           let before = c.replay-played.new.text.items in
-          let replayed = replayed_closed config.buffer_timeout lines (lists_of played.chronicle) (lists_of kept) _ _ _ c.close-disk.ensures.receipt before w.in-Ok.ensures.replayed in
+          let replayed = replayed_closed config.buffer_timeout lines (lists_of played.chronicle) (lists_of kept) _ played.durable _ _ (λ both. c.close-disk.ensures.waits (both_true (is_ok c.close-disk.result.2) (is_some played.since) both).1) c.close-disk.ensures.receipt before w.in-Ok.ensures.replayed in
           let journal : Told closed (IsJournal config.user_version kept.base (history_of kept.steps.items)) = subst (λ (k : Config). Told closed (IsJournal k.user_version kept.base (history_of kept.steps.items))) c.replay-played.ensures.same.0 (closed_so c.close-disk.result.2 w.in-Ok-closed.field-0 _ w.in-Ok-closed.is c.close-disk.ensures.content) in
           let reported = subst (λ (wanted : ℕ). IsReported wanted before w.add_report.new.text.items closed (g.D.Disk.past w.add_report.new.disk)) c.requires.version (w.add_report.ensures.reported (sym w.status-is ∙ done)) in
           let ran = has_run_on config lines before w.add_report.new.text.items kept.base kept.steps.items kept.receipts.items closed (g.D.Disk.past w.add_report.new.disk) replayed journal reported in
@@ -54,15 +55,15 @@ returns-clause-text g c =
     let now = c.match-played.disk in
     let loaded = IsLoadedState (g.D.Disk.past now) config.user_version kept.base steps in
     elim c.match-played.branch [
-      | in-Ok+in-Ok-closed w ↦ (let replayed = replayed_closed timeout lines (lists_of played.chronicle) (lists_of kept) _ _ _ c.close-disk.ensures.receipt before w.in-Ok.ensures.replayed in
+      | in-Ok+in-Ok-closed w ↦ (let replayed = replayed_closed timeout lines (lists_of played.chronicle) (lists_of kept) _ played.durable _ _ (λ both. c.close-disk.ensures.waits (both_true (is_ok c.close-disk.result.2) (is_some played.since) both).1) c.close-disk.ensures.receipt before w.in-Ok.ensures.replayed in
           let unreported = subst (λ s. (s ≡ Ok) ⊎ (c.match-played.text.items ≡ before)) (sym w.status-is) (subst (λ t. (w.add_report.result ≡ Ok) ⊎ (t.items ≡ before)) (sym w.text-is) w.add_report.ensures.unreported) in
           let cause = subst (λ s. HasDiskCause s (faults c.close-disk.result.0) (faults w.add_report.new.disk)) (sym w.status-is) w.add_report.ensures.cause in
           reported_text config status lines first (faults now) (faults c.close-disk.result.0) (faults w.add_report.new.disk) kept.base steps receipts before c.match-played.text.items (g.D.Disk.past now) replayed (returns-clause-run g c) unreported cause)
-      | in-Ok+in-Err-closed w ↦ (let replayed = replayed_closed timeout lines (lists_of played.chronicle) (lists_of kept) _ _ _ c.close-disk.ensures.receipt before w.in-Ok.ensures.replayed in
+      | in-Ok+in-Err-closed w ↦ (let replayed = replayed_closed timeout lines (lists_of played.chronicle) (lists_of kept) _ played.durable _ _ (λ both. c.close-disk.ensures.waits (both_true (is_ok c.close-disk.result.2) (is_some played.since) both).1) c.close-disk.ensures.receipt before w.in-Ok.ensures.replayed in
           let which = refusal_status w.in-Err-closed.refusal in
           let same = w.status-is ∙ w.status_of_refusal.ensures in
           subst (λ s. HasText timeout s loaded lines first (faults now) steps receipts c.match-played.text.items) (sym same) (unreported_text timeout _ loaded lines first (faults now) steps receipts before c.match-played.text.items replayed (ap (λ t. t.items) w.text-is) which))
-      | in-Err w ↦ (let ended = ended_closed timeout lines (lists_of played.chronicle) (lists_of kept) _ _ _ c.close-disk.ensures.receipt before _ _ w.in-Err.ensures.ended in
+      | in-Err w ↦ (let ended = ended_closed timeout lines (lists_of played.chronicle) (lists_of kept) _ played.durable _ _ (λ both. c.close-disk.ensures.waits (both_true (is_ok c.close-disk.result.2) (is_some played.since) both).1) c.close-disk.ensures.receipt before _ _ w.in-Err.ensures.ended in
           let idle : IsSome played.closed → faults now ≡ faults played.disk = λ some. ap faults (w.disk-is ∙ c.close-disk.ensures.idle (inr some)) in
           let named = named_refusal (Unit {0}) w.in-Err.refusal first (faults played.disk) (faults now) played.closed w.in-Err.ensures.cause w.in-Err.ensures.closes idle in
           subst (λ t. HasText timeout status loaded lines first (faults now) steps receipts t.items) (sym w.text-is) (refused_text timeout status loaded lines first (faults now) steps receipts before w.in-Err.refusal w.in-Err.ensures.last (w.status-is ∙ w.status_of_refusal-status.ensures) named ended))
@@ -132,3 +133,10 @@ returns-clause-rolled g c = c.close-disk.ensures.chronicle.rolled
 
 pub returns-clause-spent : goal.returns-clause-spent
 returns-clause-spent g c = c.close-disk.ensures.chronicle.spent
+
+pub returns-clause-owed : goal.returns-clause-owed
+returns-clause-owed g c =
+    let played = c.replay-played.new.engine in
+    let kept = c.close-disk.result.1 in
+    owed_more c.args.engine.config c.args.lines.items played.durable played.appended (lists_of played.chronicle) (lists_of kept) c.close-disk.ensures.told.last c.close-disk.ensures.told.history
+    (no_step _ played.durable played.appended _ (lists_of played.chronicle) (lists_of kept) (λ both. c.close-disk.ensures.waits (both_true (is_ok c.close-disk.result.2) (is_some played.since) both).1) c.close-disk.ensures.receipt) c.replay-played.ensures.owed
