@@ -26,10 +26,10 @@ use Rattle.amq_model.specs.Calls.{Past}
 use Rattle.amq_model.specs.Legal.{AreLegalFrom, IsDone}
 use Rattle.amq_engine.specs.Engine.{BehindRefused, IsChronicle, record_len, EngineOf, Notes, is_noted, answer_of, receipted, IsReply, IsCommandAnswer, IsCommandRefusal, flushes, flushed, moves, moved, with_record, behind_command, at_clock, must_flush, behind_tick, is_due}
 use Rattle.amq_cli.specs.Offline.{lists_of}
-use Rattle.amq_cli.specs.Replay.{IsOld, IsTickCount, AreTicksCounted, steps_behind, rolled, IsTicked, is_begin, number_behind, Answered, sent, commanded, counted, placed_at, ticked, clock_of, IsReceipted, IsLineAnswer}
+use Rattle.amq_cli.specs.Replay.{IsOld, IsNotedBy, IsFlushCount, IsTickCount, AreCounted, steps_behind, rolled, IsTicked, is_begin, number_behind, Answered, sent, commanded, counted, placed_at, ticked, clock_of, IsReceipted, IsLineAnswer}
 use Rattle.amq_cli.specs.Owed.{IsOwedSoFar}
 use Rattle.amq_cli.specs.Playing.{Grows, HasNoStep, AreNumbers, AreSteps, IsOwing, IsPlaying}
-use Rattle.amq_cli.proofs.Owing.{len_or, behind_numbers, behind_end, last_len, last_none, flushes_first, owing_line, owing_flushed, owing_step, step_counts, many_steps, ticks_snoc, ticks_more, tick_counts_all, noted_by}
+use Rattle.amq_cli.proofs.Owing.{len_or, behind_numbers, behind_end, last_len, last_none, flushes_first, owing_line, owing_flushed, owing_step, step_counts, many_steps, ticks_snoc, ticks_more, counts_all, flush_counts, no_tick, noted_by}
 use Rattle.amq_cli.proofs.Playing.{numbers_flushed, numbers_appended, numbers_answered, tick_waits, tick_flushes, same_clock, later_clock, one_more_answer, step_more, steps_same, weaker_receipts}
 
 -- ---- what was noted
@@ -156,6 +156,10 @@ sent_answer opened timeout answered l.Reclaim command answer is = absurd (let e 
 sent_answer opened timeout answered l.Compact command answer is = absurd (let e : None ≡ Some command = is in cc)
 sent_answer opened timeout answered (l.Step steps) command answer is = absurd (let e : None ≡ Some command = is in cc)
 
+-- the place of an append is no count
+no_count : (appended : ℕ) (reply : Reply) (count : ℕ) (line : Line) → reply ≡ Appended appended → counted (line, Some (Done reply)) ≡ Some count → ⊥
+no_count appended reply count line is counts = let e : None ≡ Some count = sym (ap (λ (r : Reply). counted (line, Some (Done r))) is) ∙ counts in cc
+
 -- a record was appended, so the reply has its place
 reply_appended : (appended : ℕ) (command : Command) (reply : Reply) (len : ℕ) → IsReply appended command reply → record_len command ≡ Some len → reply ≡ Appended appended
 reply_appended appended (c.Add id user_type body) reply len is some = is
@@ -169,6 +173,22 @@ reply_appended appended (c.Commit tx) reply len is some = is
 reply_appended appended (c.Rollback tx) reply len is some = is
 reply_appended appended c.Begin reply len is some = absurd (let e : None ≡ Some len = some in cc)
 reply_appended appended c.Flush reply len is some = absurd (let e : None ≡ Some len = some in cc)
+
+-- a command whose reply has a count is a flush, and counts all appends
+flush_reply : (appended : ℕ) (command : Command) (reply : Reply) (count : ℕ) (line : Line) → IsReply appended command reply → counted (line, Some (Done reply)) ≡ Some count → (command ≡ c.Flush) × (count ≡ appended)
+flush_reply appended c.Flush reply count line is counts = (refl, (let e : Some count ≡ Some appended = sym counts ∙ ap (λ (r : Reply). counted (line, Some (Done r))) is in cc))
+flush_reply appended c.Begin (Begun tx) count line is counts = absurd (let e : None ≡ Some count = counts in cc)
+flush_reply appended c.Begin (Appended place) count line is counts = absurd is
+flush_reply appended c.Begin (Durable n) count line is counts = absurd is
+flush_reply appended (c.Add id user_type body) reply count line is counts = absurd (no_count appended reply count line is counts)
+flush_reply appended (c.Update id user_type body) reply count line is counts = absurd (no_count appended reply count line is counts)
+flush_reply appended (c.Delete id) reply count line is counts = absurd (no_count appended reply count line is counts)
+flush_reply appended (c.AddTx tx id user_type body) reply count line is counts = absurd (no_count appended reply count line is counts)
+flush_reply appended (c.UpdateTx tx id user_type body) reply count line is counts = absurd (no_count appended reply count line is counts)
+flush_reply appended (c.DeleteTx tx id body) reply count line is counts = absurd (no_count appended reply count line is counts)
+flush_reply appended (c.Prepare tx extra) reply count line is counts = absurd (no_count appended reply count line is counts)
+flush_reply appended (c.Commit tx) reply count line is counts = absurd (no_count appended reply count line is counts)
+flush_reply appended (c.Rollback tx) reply count line is counts = absurd (no_count appended reply count line is counts)
 
 -- nothing more waits
 no_more : (waiting : ℕ) (placed : Option Placed) → placed ≡ None → waiting ≡ waiting + len_or (option_map (λ (p : Placed). len_of p.rec) placed)
@@ -276,11 +296,23 @@ module _ {D : Type 0} (timeout : ℕ) (answered : List Answered) (number : ℕ) 
       (λ p placed. ap (λ (r : Reply). placed_at (line, Some (Done r))) (reply_appended old.appended command reply (len_of p.rec) is (len ∙ ap (option_map (λ (p : Placed). len_of p.rec)) placed)))
 
   -- the ticks before a step count what they counted
-  step_ticks : {b : Bool} {end moment : ℕ} (x : Answered) (command : Command) (result : Result Reply Refusal) → ticked x ≡ None → IsNoted number command result b old.appended moment end (lists_of old.chronicle) (lists_of new.chronicle)
-      → AreTicksCounted timeout (length (rolled new.chronicle.steps.items)) new.chronicle.receipts.items [] (answered ++ x ∷ [])
-  step_ticks {b} {end} {moment} x command result none n = step_counts timeout answered x (lists_of old.chronicle) (lists_of new.chronicle) n.step b old.appended moment n.seated n.steps n.receipts none many was.ticks where
-    many : steps_behind (length (rolled old.chronicle.steps.items)) answered ≤ length old.chronicle.steps.items
-    many = omega (arith, many_steps was.opened number answered old.chronicle.steps.items was.steps)
+  step_ticks : {b : Bool} {end moment : ℕ} (x : Answered) (command : Command) (result : Result Reply Refusal) → ticked x ≡ None → ((count : ℕ) → counted x ≡ Some count → IsFlushCount (length (rolled old.chronicle.steps.items)) answered x count new.chronicle.receipts.items) → IsNoted number command result b old.appended moment end (lists_of old.chronicle) (lists_of new.chronicle)
+      → AreCounted timeout (length (rolled new.chronicle.steps.items)) new.chronicle.receipts.items [] (answered ++ x ∷ [])
+  step_ticks {b} {end} {moment} x command result none flush n =
+      step_counts timeout answered x (lists_of old.chronicle) (lists_of new.chronicle) n.step b old.appended moment n.seated n.steps n.receipts (no_tick timeout (length (rolled old.chronicle.steps.items)) new.chronicle.receipts.items answered x none flush) many was.counts
+    where
+      many : steps_behind (length (rolled old.chronicle.steps.items)) answered ≤ length old.chronicle.steps.items
+      many = omega (arith, many_steps was.opened number answered old.chronicle.steps.items was.steps)
+
+  -- a flush that was accepted counts what the last receipt before its step does
+  accepted_flush : {end moment : ℕ} (line : Line) (command : Command) (reply : Reply) → IsReply old.appended command reply → new ≡ record (behind_command command old) { disk = new.disk; chronicle = new.chronicle } → IsLastCount new.durable new.chronicle.receipts.items
+      → IsNoted number command (Ok reply) grew old.appended moment end (lists_of old.chronicle) (lists_of new.chronicle) → (count : ℕ) → counted (line, Some (Done reply)) ≡ Some count → IsFlushCount (length (rolled old.chronicle.steps.items)) answered (line, Some (Done reply)) count new.chronicle.receipts.items
+  accepted_flush {end} {moment} line command reply is went last n count counts =
+      let flush = flush_reply old.appended command reply count line is counts in
+      let all : new.durable ≡ old.appended =
+      ap (λ (e : EngineOf D Kept). e.durable) went ∙ (behind_numbers old command).0 ∙ ap (λ (k : Command). cond (moves old k || flushes old.config.buffer_size old.waiting k) old.appended old.durable) flush.0 in
+      flush_counts (IsOwedSoFar old.config answered old.chronicle.steps.items) (length (rolled old.chronicle.steps.items)) answered (line, Some (Done reply)) (lists_of old.chronicle) old.durable old.appended count moment grew (many_steps was.opened number answered old.chronicle.steps.items was.steps) was.owing.owed was.owing.last was.owing.history
+      (λ more. omega (arith, ltb-true _ _ more, all)) new.chronicle.receipts.items n.receipts (subst (λ (k : ℕ). IsLastCount k new.chronicle.receipts.items) (all ∙ sym flush.1) last)
 
   pub command_accepted : {file : ℕ} (line : Line) (command : Command) (reply : Reply) (moment : ℕ) (past : Option Past) (now : ℕ) → sent answered line ≡ Some command → IsReply old.appended command reply → new ≡ record (behind_command command old) { disk = new.disk; chronicle = new.chronicle }
       → Notes 1 number command (Ok reply) file new.end (receipted grew old.appended moment (Some (lists_of old.chronicle))) (Some (lists_of new.chronicle)) → IsChronicle past now new.config new.appended new.durable (lists_of new.chronicle) → IsPlaying timeout (answered ++ (line, Some (Done reply)) ∷ []) (number + 1) new
@@ -296,7 +328,7 @@ module _ {D : Type 0} (timeout : ℕ) (answered : List Answered) (number : ℕ) 
         steps = subst (λ ss. AreSteps was.opened (answered ++ x ∷ []) ss (number + 1)) (sym n.steps) (step_more was.opened answered old.chronicle.steps.items number n.step x was.steps n.seated n.numbered (said answered line sends n));
         answers = one_more_answer was.opened timeout answered x was.answers (sent_answer was.opened timeout answered line command (Done reply) sends);
         time = was.time ∙ ap (λ (k : Config). k.buffer_timeout) (sym config);
-        ticks = step_ticks x command (Ok reply) (sent_no_tick answered line command (Some (Done reply)) sends) n;
+        counts = step_ticks x command (Ok reply) (sent_no_tick answered line command (Some (Done reply)) sends) (accepted_flush line command reply is went chronicle.last n) n;
         owing = subst (λ (k : Config). IsOwing was.opened (answered ++ x ∷ []) k (lists_of new.chronicle) new.appended new.durable new.waiting new.end) (sym config) (accepted_owing line command reply past now is went refl n chronicle);
       }
 
@@ -315,7 +347,7 @@ module _ {D : Type 0} (timeout : ℕ) (answered : List Answered) (number : ℕ) 
         steps = subst (λ ss. AreSteps was.opened (answered ++ x ∷ []) ss (number + 1)) (sym n.steps) (step_more was.opened answered old.chronicle.steps.items number n.step x was.steps n.seated n.numbered (said answered line sends n));
         answers = one_more_answer was.opened timeout answered x was.answers (sent_answer was.opened timeout answered line command (Refused refusal) sends);
         time = was.time ∙ ap (λ (k : Config). k.buffer_timeout) (sym config);
-        ticks = step_ticks x command (Err refusal) (sent_no_tick answered line command (Some (Refused refusal)) sends) n;
+        counts = step_ticks x command (Err refusal) (sent_no_tick answered line command (Some (Refused refusal)) sends) (λ count counts. absurd (let e : None ≡ Some count = counts in cc)) n;
         owing = subst (λ (k : Config). IsOwing was.opened (answered ++ x ∷ []) k (lists_of new.chronicle) new.appended new.durable new.waiting new.end) (sym config)
             (owing_step was.opened answered x old.config (lists_of old.chronicle) old.appended old.durable old.waiting old.end was.owing n.step false moment (lists_of new.chronicle) new.appended new.durable new.waiting new.end was.numbers.most n.seated n.steps n.receipts
             (ap (λ (e : EngineOf D Kept). e.durable) went)
@@ -345,16 +377,16 @@ module _ {D : Type 0} (timeout : ℕ) (answered : List Answered) (number : ℕ) 
       many = many_steps was.opened number answered old.chronicle.steps.items was.steps
 
       -- the ticks before it count what they did, and this one what the last receipt counts
-      counts : (receipts : List Receipted) → new.chronicle.steps.items ≡ old.chronicle.steps.items → new.chronicle.receipts.items ≡ receipts → AreTicksCounted timeout (length (rolled old.chronicle.steps.items)) receipts [] answered
-          → IsOwing was.opened (answered ++ x ∷ []) old.config (lists_of new.chronicle) new.appended new.durable new.waiting new.end → AreTicksCounted timeout (length (rolled new.chronicle.steps.items)) new.chronicle.receipts.items [] (answered ++ x ∷ [])
+      counts : (receipts : List Receipted) → new.chronicle.steps.items ≡ old.chronicle.steps.items → new.chronicle.receipts.items ≡ receipts → AreCounted timeout (length (rolled old.chronicle.steps.items)) receipts [] answered
+          → IsOwing was.opened (answered ++ x ∷ []) old.config (lists_of new.chronicle) new.appended new.durable new.waiting new.end → AreCounted timeout (length (rolled new.chronicle.steps.items)) new.chronicle.receipts.items [] (answered ++ x ∷ [])
       counts receipts steps same all owing =
           let k = length (rolled old.chronicle.steps.items) in
           let O = IsOwedSoFar old.config (answered ++ x ∷ []) new.chronicle.steps.items in
           let tick : IsTickCount old.config.buffer_timeout (length (rolled new.chronicle.steps.items)) answered now new.durable new.chronicle.receipts.items =
-          tick_counts_all O old.config.buffer_timeout (length (rolled new.chronicle.steps.items)) answered now new.durable new.chronicle.steps.items new.chronicle.receipts.items
+          counts_all (IsNotedBy old.config.buffer_timeout (length (rolled new.chronicle.steps.items)) answered now) O new.chronicle.steps.items (steps_behind (length (rolled new.chronicle.steps.items)) answered) new.durable new.chronicle.receipts.items
           (λ n r o. noted_by old.config answered x now new.chronicle.steps.items refl (subst (λ (ss : List Step). length ss ≡ steps_behind (length (rolled ss)) answered) (sym steps) many) n r o) owing.owed chronicle.last in
-          subst (λ (ss : List Step). AreTicksCounted timeout (length (rolled ss)) new.chronicle.receipts.items [] (answered ++ x ∷ [])) (sym steps)
-          (ticks_snoc timeout k new.chronicle.receipts.items answered x (subst (λ (rs : List Receipted). AreTicksCounted timeout k rs [] answered) (sym same) all)
+          subst (λ (ss : List Step). AreCounted timeout (length (rolled ss)) new.chronicle.receipts.items [] (answered ++ x ∷ [])) (sym steps)
+          (ticks_snoc timeout k new.chronicle.receipts.items answered x (subst (λ (rs : List Receipted). AreCounted timeout k rs [] answered) (sym same) all)
           (subst (λ (n : ℕ). IsTickCount timeout k answered now n new.chronicle.receipts.items) (sym is) (subst (λ (t : ℕ). IsTickCount t k answered now new.durable new.chronicle.receipts.items) (sym time) (subst (λ (ss : List Step). IsTickCount old.config.buffer_timeout (length (rolled ss)) answered now new.durable new.chronicle.receipts.items) steps tick))))
 
       by : (b : Bool) → must_flush (at_clock now old) ≡ b → IsPlaying timeout (answered ++ x ∷ []) number new
@@ -389,7 +421,7 @@ module _ {D : Type 0} (timeout : ℕ) (answered : List Answered) (number : ℕ) 
             steps = subst (λ ss. AreSteps was.opened (answered ++ x ∷ []) ss number) (sym steps) (steps_same was.opened answered old.chronicle.steps.items number x was.steps refl);
             answers = one_more_answer was.opened timeout answered x was.answers (subst (λ (n : ℕ). IsTicked was.opened timeout answered now n) (sym all) (tick_flushes was.opened timeout answered _ old.clock old.appended old.durable now old.since was.numbers));
             time = was.time ∙ ap (λ (k : Config). k.buffer_timeout) (sym config);
-            ticks = counts (old.chronicle.receipts.items ++ r ∷ []) steps grown (ticks_more timeout (length (rolled old.chronicle.steps.items)) old.chronicle.receipts.items r answered (omega (arith, many)) was.ticks) owing_new;
+            counts = counts (old.chronicle.receipts.items ++ r ∷ []) steps grown (ticks_more timeout (length (rolled old.chronicle.steps.items)) old.chronicle.receipts.items r answered (omega (arith, many)) was.counts) owing_new;
             owing = subst (λ (k : Config). IsOwing was.opened (answered ++ x ∷ []) k (lists_of new.chronicle) new.appended new.durable new.waiting new.end) (sym config) owing_new;
           }
       by false here =
@@ -409,7 +441,7 @@ module _ {D : Type 0} (timeout : ℕ) (answered : List Answered) (number : ℕ) 
             steps = subst (λ ss. AreSteps was.opened (answered ++ x ∷ []) ss number) (sym steps) (steps_same was.opened answered old.chronicle.steps.items number x was.steps refl);
             answers = one_more_answer was.opened timeout answered x was.answers (subst (λ (n : ℕ). IsTicked was.opened timeout answered now n) (sym same) (tick_waits was.opened timeout answered _ old.clock old.appended old.durable now old.since (ap (λ (t : ℕ). is_due (max old.clock now) t old.since) time ∙ here) was.numbers));
             time = was.time ∙ ap (λ (k : Config). k.buffer_timeout) (sym config);
-            ticks = counts old.chronicle.receipts.items steps still was.ticks owing_new;
+            counts = counts old.chronicle.receipts.items steps still was.counts owing_new;
             owing = subst (λ (k : Config). IsOwing was.opened (answered ++ x ∷ []) k (lists_of new.chronicle) new.appended new.durable new.waiting new.end) (sym config) owing_new;
           }
 
@@ -423,7 +455,7 @@ bound timeout answered number e label tx was = record {
   steps = steps_same was.opened answered _ number (l.Bind label tx, None) was.steps refl;
   answers = one_more_answer was.opened timeout answered (l.Bind label tx, None) was.answers tt;
   time = was.time;
-  ticks = ticks_snoc timeout (length (rolled e.chronicle.steps.items)) e.chronicle.receipts.items answered (l.Bind label tx, None) was.ticks tt;
+  counts = ticks_snoc timeout (length (rolled e.chronicle.steps.items)) e.chronicle.receipts.items answered (l.Bind label tx, None) was.counts tt;
   owing = owing_line was.opened answered (l.Bind label tx, None) e.config (lists_of e.chronicle) e.appended e.durable e.waiting e.end was.owing;
 }
 

@@ -66,7 +66,7 @@ answered_more timeout lines durable appended old new answered kept are = subst (
   numbered = are.numbered;
   receipted = λ k d lt. more_receipts durable appended old new kept.receipts _ (are.receipted k d lt);
   answers = are.answers;
-  ticks = ticks_grown timeout durable appended old new answered are.commands kept.receipts are.ticks;
+  counts = ticks_grown timeout durable appended old new answered are.commands kept.receipts are.counts;
 })
 
 module _ {D : Type 0} (timeout : ℕ) where
@@ -78,7 +78,7 @@ module _ {D : Type 0} (timeout : ℕ) where
     numbered = playing.steps.numbered;
     receipted = playing.numbers.receipted;
     answers = subst (λ (n : ℕ). AreLineAnswers n timeout [] answered) (sym playing.steps.rolls) playing.answers;
-    ticks = playing.ticks;
+    counts = playing.counts;
   } where
     long : length answered ≡ length done
     long = sym (length-map answered (λ (x : Answered). x.0)) ∙ ap length lines
@@ -155,7 +155,7 @@ ended_more timeout front more steps receipts text ending short e =
         numbered = e.are.numbered;
         receipted = e.are.receipted;
         answers = e.are.answers;
-        ticks = e.are.ticks;
+        counts = e.are.counts;
       };
       rest = e.rest;
       is = e.is;
@@ -178,7 +178,7 @@ owed_front config front more steps receipts o =
         numbered = o.are.numbered;
         receipted = o.are.receipted;
         answers = o.are.answers;
-        ticks = o.are.ticks;
+        counts = o.are.counts;
       };
       owed = o.owed;
       opened = o.opened;

@@ -27,7 +27,7 @@ use Rattle.amq_engine.specs.Engine.{EngineOf, flushes, flushed, moves, moved, pa
 use Rattle.amq_engine.specs.Owed.{waiting_behind, FlushesFirst, AreOwed, BeginOwed}
 use Rattle.amq_engine.proofs.History.{history-snoc}
 use Rattle.amq_engine.proofs.Owing.{begin_weaker, begin_snoc, counts_more, step_more, counts_now}
-use Rattle.amq_cli.specs.Replay.{Answered, all_commanded, commanded, placed_at, counted, ticked, clock_of, IsOld, IsNotedBy, IsCountOf, IsTickCount, IsLineCount, AreTicksCounted, steps_behind, own, rolled}
+use Rattle.amq_cli.specs.Replay.{Answered, all_commanded, commanded, placed_at, counted, ticked, clock_of, IsOld, IsNotedBy, IsCountOf, IsCountIn, IsTickCount, IsFlushCount, IsLineCount, AreCounted, steps_behind, own, rolled}
 use Rattle.amq_cli.specs.Owed.{IsOwedSoFar, is_opened}
 use Rattle.amq_cli.specs.Playing.{Grows, AreSteps, IsPlacedIn, IsOwing}
 use Rattle.amq_cli.proofs.Playing.{split-snoc, own_more}
@@ -78,62 +78,82 @@ clock_behind xs now answer ys x is =
 
 -- ---- ticks
 
-ticks_from : (timeout opening : ℕ) (receipts : List Receipted) (before answered : List Answered) (x : Answered) → AreTicksCounted timeout opening receipts before answered → IsLineCount timeout opening receipts (before ++ answered) x → AreTicksCounted timeout opening receipts before (answered ++ x ∷ [])
+ticks_from : (timeout opening : ℕ) (receipts : List Receipted) (before answered : List Answered) (x : Answered) → AreCounted timeout opening receipts before answered → IsLineCount timeout opening receipts (before ++ answered) x → AreCounted timeout opening receipts before (answered ++ x ∷ [])
 ticks_from timeout opening receipts before [] x all one = (subst (λ (xs : List Answered). IsLineCount timeout opening receipts xs x) (append-nil before) one, tt)
 ticks_from timeout opening receipts before (y ∷ ys) x all one = (all.0, ticks_from timeout opening receipts (before ++ y ∷ []) ys x all.1 (subst (λ (xs : List Answered). IsLineCount timeout opening receipts xs x) (sym (append_assoc before (y ∷ []) ys)) one))
 
 -- one line more
-pub ticks_snoc : (timeout opening : ℕ) (receipts : List Receipted) (answered : List Answered) (x : Answered) → AreTicksCounted timeout opening receipts [] answered → IsLineCount timeout opening receipts answered x → AreTicksCounted timeout opening receipts [] (answered ++ x ∷ [])
+pub ticks_snoc : (timeout opening : ℕ) (receipts : List Receipted) (answered : List Answered) (x : Answered) → AreCounted timeout opening receipts [] answered → IsLineCount timeout opening receipts answered x → AreCounted timeout opening receipts [] (answered ++ x ∷ [])
 ticks_snoc timeout opening receipts answered x all one = ticks_from timeout opening receipts [] answered x all one
 
--- what a line with such a moment and such a count does
-abbrev Counts : ℕ → ℕ → List Answered → List Receipted → Option ℕ → Option ℕ → Type 0
-Counts timeout opening before receipts t c = elim t [ None ↦ Unit {0} | Some now ↦ elim c [ None ↦ Unit {0} | Some count ↦ IsTickCount timeout opening before now count receipts ] ]
+-- what a line with such a count and such a moment does
+abbrev Counts : ℕ → ℕ → List Answered → Answered → List Receipted → Option ℕ → Option ℕ → Type 0
+Counts timeout opening before x receipts c t = elim c [ None ↦ Unit {0} | Some count ↦ elim t [ None ↦ IsFlushCount opening before x count receipts | Some now ↦ IsTickCount timeout opening before now count receipts ] ]
 
 -- one that is no tick
-pub no_tick : (timeout opening : ℕ) (receipts : List Receipted) (before : List Answered) (x : Answered) → ticked x ≡ None → IsLineCount timeout opening receipts before x
-no_tick timeout opening receipts before x is = subst (λ (o : Option ℕ). Counts timeout opening before receipts o (counted x)) (sym is) tt
+pub no_tick : (timeout opening : ℕ) (receipts : List Receipted) (before : List Answered) (x : Answered) → ticked x ≡ None → ((count : ℕ) → counted x ≡ Some count → IsFlushCount opening before x count receipts) → IsLineCount timeout opening receipts before x
+no_tick timeout opening receipts before x is flush = by (counted x) refl where
+  by : (c : Option ℕ) → counted x ≡ c → Counts timeout opening before x receipts c (ticked x)
+  by None here = tt
+  by (Some count) here = subst (Counts timeout opening before x receipts (Some count)) (sym is) (flush count here)
 
 count_snoc : (IsNoted : ℕ → Receipted → Type 0) (k count n : ℕ) (rs : List Receipted) (r : Receipted) → k ≤ r.steps → IsCountOf IsNoted k count n rs → IsCountOf IsNoted k count n (rs ++ r ∷ [])
 count_snoc IsNoted k count n [] r le is = inl (is, le)
 count_snoc IsNoted k count n (q ∷ qs) r le (inl is) = inl is
 count_snoc IsNoted k count n (q ∷ qs) r le (inr is) = inr (is.0, count_snoc IsNoted k count q.durable qs r le is.1)
 
-tick_snoc : (timeout opening : ℕ) (before : List Answered) (now count : ℕ) (rs : List Receipted) (r : Receipted) → steps_behind opening before ≤ r.steps → IsTickCount timeout opening before now count rs → IsTickCount timeout opening before now count (rs ++ r ∷ [])
-tick_snoc timeout opening before now count [] r le is = absurd is
-tick_snoc timeout opening before now count (q ∷ qs) r le is = count_snoc (IsNotedBy timeout opening before now) (steps_behind opening before) count q.durable qs r le is
+in_snoc : (IsNoted : ℕ → Receipted → Type 0) (k count : ℕ) (rs : List Receipted) (r : Receipted) → k ≤ r.steps → IsCountIn IsNoted k count rs → IsCountIn IsNoted k count (rs ++ r ∷ [])
+in_snoc IsNoted k count [] r le is = absurd is
+in_snoc IsNoted k count (q ∷ qs) r le is = count_snoc IsNoted k count q.durable qs r le is
 
-line_snoc : (timeout opening : ℕ) (rs : List Receipted) (r : Receipted) (before : List Answered) (x : Answered) → steps_behind opening before ≤ r.steps → IsLineCount timeout opening rs before x → IsLineCount timeout opening (rs ++ r ∷ []) before x
-line_snoc timeout opening rs r before x le is = by (ticked x) (counted x) is where
-  by : (t c : Option ℕ) → Counts timeout opening before rs t c → Counts timeout opening before (rs ++ r ∷ []) t c
-  by None c is = tt
-  by (Some now) None is = tt
-  by (Some now) (Some count) is = tick_snoc timeout opening before now count rs r le is
+line_snoc : (timeout opening : ℕ) (rs : List Receipted) (r : Receipted) (before : List Answered) (x : Answered) → steps_behind opening (before ++ x ∷ []) ≤ r.steps → IsLineCount timeout opening rs before x → IsLineCount timeout opening (rs ++ r ∷ []) before x
+line_snoc timeout opening rs r before x le is = by (counted x) (ticked x) is where
+  by : (c t : Option ℕ) → Counts timeout opening before x rs c t → Counts timeout opening before x (rs ++ r ∷ []) c t
+  by None t is = tt
+  by (Some count) None is = in_snoc (λ durable r. r.steps ≤ steps_behind opening before) (steps_behind opening (before ++ x ∷ [])) count rs r le is
+  by (Some count) (Some now) is = in_snoc (IsNotedBy timeout opening before now) (steps_behind opening before) count rs r (omega (arith, le, steps_more opening before (x ∷ []))) is
 
-ticks_later : (timeout opening : ℕ) (rs : List Receipted) (r : Receipted) (before answered : List Answered) → steps_behind opening (before ++ answered) ≤ r.steps → AreTicksCounted timeout opening rs before answered → AreTicksCounted timeout opening (rs ++ r ∷ []) before answered
+ticks_later : (timeout opening : ℕ) (rs : List Receipted) (r : Receipted) (before answered : List Answered) → steps_behind opening (before ++ answered) ≤ r.steps → AreCounted timeout opening rs before answered → AreCounted timeout opening (rs ++ r ∷ []) before answered
 ticks_later timeout opening rs r before [] le all = tt
-ticks_later timeout opening rs r before (x ∷ xs) le all = (
-  line_snoc timeout opening rs r before x (omega (arith, le, steps_more opening before (x ∷ xs))) all.0,
-  ticks_later timeout opening rs r (before ++ x ∷ []) xs (subst (λ (ys : List Answered). steps_behind opening ys ≤ r.steps) (sym (append_assoc before (x ∷ []) xs)) le) all.1,
-)
+ticks_later timeout opening rs r before (x ∷ xs) le all =
+    let further : steps_behind opening ((before ++ x ∷ []) ++ xs) ≤ r.steps = subst (λ (ys : List Answered). steps_behind opening ys ≤ r.steps) (sym (append_assoc before (x ∷ []) xs)) le in (
+      line_snoc timeout opening rs r before x (omega (arith, further, steps_more opening (before ++ x ∷ []) xs)) all.0,
+      ticks_later timeout opening rs r (before ++ x ∷ []) xs further all.1,
+    )
 
 -- a further receipt behind all steps
-pub ticks_more : (timeout opening : ℕ) (rs : List Receipted) (r : Receipted) (answered : List Answered) → steps_behind opening answered ≤ r.steps → AreTicksCounted timeout opening rs [] answered → AreTicksCounted timeout opening (rs ++ r ∷ []) [] answered
+pub ticks_more : (timeout opening : ℕ) (rs : List Receipted) (r : Receipted) (answered : List Answered) → steps_behind opening answered ≤ r.steps → AreCounted timeout opening rs [] answered → AreCounted timeout opening (rs ++ r ∷ []) [] answered
 ticks_more timeout opening rs r answered le all = ticks_later timeout opening rs r [] answered le all
 
-pub ticks_grown : (timeout durable appended : ℕ) (old new : Lists) (answered : List Answered) → map (λ s. (s.command, s.answer)) (own old.steps) ≡ all_commanded [] answered → Grows durable appended old new → AreTicksCounted timeout (length (rolled old.steps)) old.receipts [] answered
-    → AreTicksCounted timeout (length (rolled old.steps)) new.receipts [] answered
-ticks_grown timeout durable appended old new answered commands (inl same) all = subst (λ (rs : List Receipted). AreTicksCounted timeout (length (rolled old.steps)) rs [] answered) (sym same) all
-ticks_grown timeout durable appended old new answered commands (inr one) all = subst (λ (rs : List Receipted). AreTicksCounted timeout (length (rolled old.steps)) rs [] answered) (sym one.1) (ticks_more timeout (length (rolled old.steps)) old.receipts one.0 answered (omega (arith, one.2, many_by answered old.steps commands)) all)
+pub ticks_grown : (timeout durable appended : ℕ) (old new : Lists) (answered : List Answered) → map (λ s. (s.command, s.answer)) (own old.steps) ≡ all_commanded [] answered → Grows durable appended old new → AreCounted timeout (length (rolled old.steps)) old.receipts [] answered
+    → AreCounted timeout (length (rolled old.steps)) new.receipts [] answered
+ticks_grown timeout durable appended old new answered commands (inl same) all = subst (λ (rs : List Receipted). AreCounted timeout (length (rolled old.steps)) rs [] answered) (sym same) all
+ticks_grown timeout durable appended old new answered commands (inr one) all = subst (λ (rs : List Receipted). AreCounted timeout (length (rolled old.steps)) rs [] answered) (sym one.1) (ticks_more timeout (length (rolled old.steps)) old.receipts one.0 answered (omega (arith, one.2, many_by answered old.steps commands)) all)
 
 count_of_all : (IsNoted O : ℕ → Receipted → Type 0) (steps : List Step) (k count : ℕ) (q : Receipted) (rs : List Receipted) → ((n : ℕ) (r : Receipted) → O n r → IsNoted n r) → AreOwed O steps q.durable rs → EndsWith count q rs → IsCountOf IsNoted k count q.durable rs
 count_of_all IsNoted O steps k count q [] f all ends = sym ends
 count_of_all IsNoted O steps k count q (r ∷ rs) f all ends = inr (f q.durable r all.2, count_of_all IsNoted O steps k count r rs f all.3 ends)
 
--- all receipts were noted up to the tick
-pub tick_counts_all : (O : ℕ → Receipted → Type 0) (timeout opening : ℕ) (before : List Answered) (now count : ℕ) (steps : List Step) (rs : List Receipted) → ((n : ℕ) (r : Receipted) → O n r → IsNotedBy timeout opening before now n r) → BeginOwed O steps rs → IsLastCount count rs → IsTickCount timeout opening before now count rs
-tick_counts_all O timeout opening before now count steps [] f all last = absurd last
-tick_counts_all O timeout opening before now count steps (q ∷ qs) f all last = count_of_all (IsNotedBy timeout opening before now) O steps (steps_behind opening before) count q qs f all.2 last
+-- all receipts were noted up to then
+pub counts_all : (IsNoted O : ℕ → Receipted → Type 0) (steps : List Step) (k count : ℕ) (rs : List Receipted) → ((n : ℕ) (r : Receipted) → O n r → IsNoted n r) → BeginOwed O steps rs → IsLastCount count rs → IsCountIn IsNoted k count rs
+counts_all IsNoted O steps k count [] f all last = absurd last
+counts_all IsNoted O steps k count (q ∷ qs) f all last = count_of_all IsNoted O steps k count q qs f all.2 last
+
+-- behind these receipts, and perhaps one more, a flush counts all
+pub flush_counts : (O : ℕ → Receipted → Type 0) (opening : ℕ) (before : List Answered) (x : Answered) (l : Lists) (durable appended count moment : ℕ) (b : Bool) → length l.steps ≡ steps_behind opening before → BeginOwed O l.steps l.receipts → IsLastCount durable l.receipts → appended ≡ length (history_of l.steps)
+    → (b ≡ true → durable < appended) → (receipts : List Receipted) → receipts ≡ cond b (l.receipts ++ record { durable = appended; moment = moment; steps = length l.steps } ∷ []) l.receipts → IsLastCount count receipts → IsFlushCount opening before x count receipts
+flush_counts O opening before x l durable appended count moment b many owed last history more receipts is ends =
+    counts_all IsNoted IsNoted l.steps (steps_behind opening (before ++ x ∷ [])) count receipts (λ n r le. le) (subst (BeginOwed IsNoted l.steps) (sym is) (by b more)) ends
+  where
+    IsNoted : ℕ → Receipted → Type 0
+    IsNoted durable r = r.steps ≤ steps_behind opening before
+
+    noted : BeginOwed IsNoted l.steps l.receipts
+    noted = begin_weaker O IsNoted l.steps l.steps l.receipts (λ r c. c) (λ n r c o. omega (arith, many, c.place, ap length c.is, length-append c.before c.behind)) owed
+
+    by : (b : Bool) → (b ≡ true → durable < appended) → BeginOwed IsNoted l.steps (cond b (l.receipts ++ record { durable = appended; moment = moment; steps = length l.steps } ∷ []) l.receipts)
+    by false more = noted
+    by true more = begin_snoc IsNoted l.steps durable l.receipts (record { durable = appended; moment = moment; steps = length l.steps }) last (more refl) (counts_now l.steps appended moment history) (omega (arith, many)) noted
 
 -- what is owed so far was noted up to a tick that stands last
 pub noted_by : (config : Config) (answered : List Answered) (x : Answered) (now : ℕ) (steps : List Step) → ticked x ≡ Some now → length steps ≡ steps_behind (length (rolled steps)) answered → (n : ℕ) (r : Receipted) → IsOwedSoFar config (answered ++ x ∷ []) steps n r → IsNotedBy config.buffer_timeout (length (rolled steps)) answered now n r
@@ -350,15 +370,15 @@ module _ (opened : ℕ) (answered : List Answered) (x : Answered) (config : Conf
     }
 
 -- the ticks before a step count what they counted
-pub step_counts : (timeout : ℕ) (answered : List Answered) (x : Answered) (l l' : Lists) (s : Step) (b : Bool) (appended moment : ℕ) → s.seat ≡ 1 → l'.steps ≡ l.steps ++ s ∷ [] → l'.receipts ≡ cond b (l.receipts ++ record { durable = appended; moment = moment; steps = length l.steps } ∷ []) l.receipts → ticked x ≡ None
-    → steps_behind (length (rolled l.steps)) answered ≤ length l.steps → AreTicksCounted timeout (length (rolled l.steps)) l.receipts [] answered → AreTicksCounted timeout (length (rolled l'.steps)) l'.receipts [] (answered ++ x ∷ [])
-step_counts timeout answered x l l' s b appended moment seat steps receipts is many all =
+pub step_counts : (timeout : ℕ) (answered : List Answered) (x : Answered) (l l' : Lists) (s : Step) (b : Bool) (appended moment : ℕ) → s.seat ≡ 1 → l'.steps ≡ l.steps ++ s ∷ [] → l'.receipts ≡ cond b (l.receipts ++ record { durable = appended; moment = moment; steps = length l.steps } ∷ []) l.receipts → IsLineCount timeout (length (rolled l.steps)) l'.receipts answered x
+    → steps_behind (length (rolled l.steps)) answered ≤ length l.steps → AreCounted timeout (length (rolled l.steps)) l.receipts [] answered → AreCounted timeout (length (rolled l'.steps)) l'.receipts [] (answered ++ x ∷ [])
+step_counts timeout answered x l l' s b appended moment seat steps receipts line many all =
     let opening : length (rolled l.steps) ≡ length (rolled l'.steps) = ap (λ (ss : List Step). length ss) (sym (own_more l.steps s seat).1 ∙ ap rolled (sym steps)) in
     let k = length (rolled l.steps) in
-    subst (λ (n : ℕ). AreTicksCounted timeout n l'.receipts [] (answered ++ x ∷ [])) opening
-    (ticks_snoc timeout k l'.receipts answered x (subst (λ (rs : List Receipted). AreTicksCounted timeout k rs [] answered) (sym receipts) (by b)) (no_tick timeout k l'.receipts answered x is))
+    subst (λ (n : ℕ). AreCounted timeout n l'.receipts [] (answered ++ x ∷ [])) opening
+    (ticks_snoc timeout k l'.receipts answered x (subst (λ (rs : List Receipted). AreCounted timeout k rs [] answered) (sym receipts) (by b)) line)
   where
-    by : (b : Bool) → AreTicksCounted timeout (length (rolled l.steps)) (cond b (l.receipts ++ record { durable = appended; moment = moment; steps = length l.steps } ∷ []) l.receipts) [] answered
+    by : (b : Bool) → AreCounted timeout (length (rolled l.steps)) (cond b (l.receipts ++ record { durable = appended; moment = moment; steps = length l.steps } ∷ []) l.receipts) [] answered
     by true = ticks_more timeout (length (rolled l.steps)) l.receipts (record { durable = appended; moment = moment; steps = length l.steps }) answered many all
     by false = all
 

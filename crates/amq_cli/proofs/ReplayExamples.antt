@@ -12,7 +12,7 @@ use Rattle.amq_model.specs.declared.history.Answer.{Answer}
 use Rattle.amq_model.specs.declared.history.Answer.TheVariants.{Done}
 use Rattle.amq_model.specs.declared.history.Step.{Step}
 use Rattle.amq_engine.specs.declared.chronicle.Receipted.{Receipted}
-use Rattle.amq_cli.specs.Replay.{IsOld, IsTickCount, Answered, placed_at, reply_lines, IsTicked, IsReceipted, AreAnswered, HasEnded, all_commanded, line_of, IsLineAnswer}
+use Rattle.amq_cli.specs.Replay.{IsOld, IsTickCount, IsFlushCount, Answered, placed_at, reply_lines, IsTicked, IsReceipted, AreAnswered, HasEnded, all_commanded, line_of, IsLineAnswer}
 
 -- ---- the lines
 
@@ -127,9 +127,21 @@ counted_too_early (inr (inl opening, rest)) = omega (arith, opening)
 counted_too_early (inr (inr (inl before), rest)) = omega (arith, before)
 counted_too_early (inr (inr (inr (here, old)), rest)) = two_young old
 
+-- a flush behind the first append counts what the receipt before its step does
+abbrev flush : Answered
+flush = (l.Plain c.Flush, Some (Done (Durable 1)))
+
+pub counted_by_a_flush : IsFlushCount 0 (appended add 0 ∷ []) flush 1 receipts
+counted_by_a_flush = inr (omega arith, inl (refl, omega arith))
+
+-- and not one that is noted behind it
+pub counted_before_the_receipt : IsFlushCount 0 (appended add 0 ∷ []) flush 1 (record { durable = 0; moment = 5; steps = 0 } ∷ record { durable = 1; moment = 9; steps = 2 } ∷ []) → ⊥
+counted_before_the_receipt (inl (same, later)) = omega (arith, same)
+counted_before_the_receipt (inr (before, rest)) = omega (arith, before)
+
 -- the tick is no step
 pub three_lines : AreAnswered 3 lines (first ∷ second ∷ []) receipts answered
-three_lines = record { front = refl; commands = refl; numbered = (refl, refl, (refl, refl, tt)); receipted = All-cons (IsReceipted receipts) 1 [] refl (All-nil (IsReceipted receipts)); answers = (tt, (ticked, (tt, tt))); ticks = (tt, (counted_by_the_tick, (tt, tt))) } where
+three_lines = record { front = refl; commands = refl; numbered = (refl, refl, (refl, refl, tt)); receipted = All-cons (IsReceipted receipts) 1 [] refl (All-nil (IsReceipted receipts)); answers = (tt, (ticked, (tt, tt))); counts = (tt, (counted_by_the_tick, (tt, tt))) } where
   ticked : IsTicked 0 3 (appended add 0 ∷ []) 3 1
   ticked = record { within = omega arith; least = omega arith; rising = All-nil (λ c. c ≤ 1); young = λ front x back is place. absurd (one_of (λ y. placed_at y ≡ Some 1 → ⊥) front x back (subst (All (λ y. placed_at y ≡ Some 1 → ⊥)) is each) place) } where
     each : All (λ y. placed_at y ≡ Some 1 → ⊥) (appended add 0 ∷ [])
@@ -140,7 +152,7 @@ abbrev pub rollback : Step
 rollback = record { seat = 0; number = 1; command = c.Rollback 5; answer = Done (Appended 0); placed = Some (record { file = 2; place = 16; compact = 0; rec = rec.Rollback 5 }) }
 
 pub behind_a_rollback : AreAnswered 3 (l.Plain add ∷ []) (rollback ∷ record first { answer = Done (Appended 1) } ∷ []) receipts (appended add 1 ∷ [])
-behind_a_rollback = record { front = refl; commands = refl; numbered = (refl, refl, tt); receipted = All-nil (IsReceipted receipts); answers = (tt, tt); ticks = (tt, tt) }
+behind_a_rollback = record { front = refl; commands = refl; numbered = (refl, refl, tt); receipted = All-nil (IsReceipted receipts); answers = (tt, tt); counts = (tt, tt) }
 
 pub the_rollback_is_no_line : AreAnswered 3 (l.Plain (c.Rollback 5) ∷ []) (rollback ∷ []) receipts (appended (c.Rollback 5) 0 ∷ []) → ⊥
 the_rollback_is_no_line h = let n : ◌≡◌ {A = ℕ} 0 1 = ap length h.commands in omega (arith, n)
@@ -167,7 +179,7 @@ cut_short = record { answered = answered; are = three_lines; rest = codes "able 
 
 -- the first two lines were answered
 two_lines : AreAnswered 3 lines (first ∷ []) receipts (appended add 0 ∷ durable 3 1 ∷ [])
-two_lines = record { front = refl; commands = refl; numbered = (refl, refl, tt); receipted = three_lines.receipted; answers = (three_lines.answers.0, (three_lines.answers.1.0, tt)); ticks = (tt, (counted_by_the_tick, tt)) }
+two_lines = record { front = refl; commands = refl; numbered = (refl, refl, tt); receipted = three_lines.receipted; answers = (three_lines.answers.0, (three_lines.answers.1.0, tt)); counts = (tt, (counted_by_the_tick, tt)) }
 
 -- a disk call failed at the third one
 pub ended_by_a_disk_call : HasEnded 3 lines (first ∷ []) receipts (codes "ok 0\ndurable 1\nrefused Disk WriteAt\n") (codes "refused Disk WriteAt\n") false

@@ -207,7 +207,7 @@ opens_partly n (tx ∷ txs) (x ∷ xs) opens =
     )
 
 pub none_answered : (timeout : ℕ) (lines : List Line) (steps : List Step) (receipts : List Receipted) → own steps ≡ [] → AreAnswered timeout lines steps receipts []
-none_answered timeout lines steps receipts none = record { front = refl; commands = ap (map (λ (s : Step). (s.command, s.answer))) none; numbered = subst (AreNumbered 1) (sym none) tt; receipted = λ k d lt. absurd (omega (arith, lt)); answers = tt; ticks = tt }
+none_answered timeout lines steps receipts none = record { front = refl; commands = ap (map (λ (s : Step). (s.command, s.answer))) none; numbered = subst (AreNumbered 1) (sym none) tt; receipted = λ k d lt. absurd (omega (arith, lt)); answers = tt; counts = tt }
 
 -- what an opening that was refused noted is owed
 pub unopened_owed : (config : Config) (lines : List Line) (l : Lists) → own l.steps ≡ [] → AreOwedAtOpening config l → HasOwed config lines l.steps l.receipts
@@ -297,7 +297,7 @@ begun_played timeout e base text time durable waiting since clock history rolls 
         };
         answers = tt;
         time = time;
-        ticks = tt;
+        counts = tt;
         owing = begun_owing e.config (lists_of e.chronicle) e.appended e.durable e.waiting e.end opens.1 durable waiting history last ends owed;
       };
       labelled = λ label. refl;

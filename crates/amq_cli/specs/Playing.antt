@@ -14,7 +14,7 @@ use Rattle.amq_model.specs.Answers.{history_of}
 use Rattle.amq_model.specs.Legal.{end_of}
 use Rattle.amq_cli.specs.Offline.{lists_of}
 use Rattle.amq_cli.specs.Owed.{IsOwedSoFar, is_opened}
-use Rattle.amq_cli.specs.Replay.{Answered, all_commanded, label_number, placed_at, counted, clock_of, reply_lines, AreLineAnswers, AreNumbered, AreTicksCounted, IsReceipted, own, opened_in, rolled}
+use Rattle.amq_cli.specs.Replay.{Answered, all_commanded, label_number, placed_at, counted, clock_of, reply_lines, AreLineAnswers, AreNumbered, AreCounted, IsReceipted, own, opened_in, rolled}
 
 -- Of so many appends, of which so many were durable: the same receipts, or one more, of all appends, behind the steps so far.
 abbrev pub Grows : ℕ → ℕ → Lists → Lists → Type 0
@@ -74,7 +74,7 @@ pub record IsPlaying {D : Type 0} (timeout : ℕ) (answered : List Answered) (nu
   pub steps : AreSteps opened answered e.chronicle.steps.items number
   pub answers : AreLineAnswers opened timeout [] answered
   pub time : timeout ≡ e.config.buffer_timeout
-  pub ticks : AreTicksCounted timeout (length (rolled e.chronicle.steps.items)) e.chronicle.receipts.items [] answered
+  pub counts : AreCounted timeout (length (rolled e.chronicle.steps.items)) e.chronicle.receipts.items [] answered
   pub owing : IsOwing opened answered e.config (lists_of e.chronicle) e.appended e.durable e.waiting e.end
 
 -- each label stands for this number behind these lines

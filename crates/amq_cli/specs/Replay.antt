@@ -172,7 +172,7 @@ AreNumbered n (s ∷ ss) = (s.seat ≡ 1) × (s.number ≡ n) × AreNumbered (n 
 abbrev pub IsReceipted : List Receipted → ℕ → Type 0
 IsReceipted receipts count = IsTrue (list_any (λ r. r.durable == count) receipts)
 
--- ---- which receipt a tick counts
+-- ---- which receipt a tick or a flush counts
 
 -- The append of this place came at least the timeout before a tick of this moment behind these lines.
 pub record IsOld (timeout : ℕ) (before : List Answered) (now place : ℕ) : Type 0 where
@@ -196,28 +196,36 @@ abbrev pub IsCountOf : (ℕ → Receipted → Type 0) → ℕ → ℕ → ℕ �
 IsCountOf IsNoted steps count durable [] = count ≡ durable
 IsCountOf IsNoted steps count durable (r ∷ rs) = ((count ≡ durable) × (steps ≤ r.steps)) ⊎ (IsNoted durable r × IsCountOf IsNoted steps count r.durable rs)
 
+-- the same of all receipts, the first of which was noted
+abbrev pub IsCountIn : (ℕ → Receipted → Type 0) → ℕ → ℕ → List Receipted → Type 0
+IsCountIn IsNoted steps count [] = ⊥
+IsCountIn IsNoted steps count (r ∷ rs) = IsCountOf IsNoted steps count r.durable rs
+
 -- A tick counts what the last receipt up to it counts.
 abbrev pub IsTickCount : ℕ → ℕ → List Answered → ℕ → ℕ → List Receipted → Type 0
-IsTickCount timeout opening before now count [] = ⊥
-IsTickCount timeout opening before now count (r ∷ rs) = IsCountOf (IsNotedBy timeout opening before now) (steps_behind opening before) count r.durable rs
+IsTickCount timeout opening before now count receipts = IsCountIn (IsNotedBy timeout opening before now) (steps_behind opening before) count receipts
 
--- a line behind others does, if it is a tick
+-- A flush counts what the last receipt before its step counts.
+abbrev pub IsFlushCount : ℕ → List Answered → Answered → ℕ → List Receipted → Type 0
+IsFlushCount opening before x count receipts = IsCountIn (λ durable r. r.steps ≤ steps_behind opening before) (steps_behind opening (before ++ x ∷ [])) count receipts
+
+-- a line behind others does, if it is a tick or a flush
 abbrev pub IsLineCount : ℕ → ℕ → List Receipted → List Answered → Answered → Type 0
-IsLineCount timeout opening receipts before x = elim (ticked x) [ None ↦ Unit {0} | Some now ↦ elim (counted x) [ None ↦ Unit {0} | Some count ↦ IsTickCount timeout opening before now count receipts ] ]
+IsLineCount timeout opening receipts before x = elim (counted x) [ None ↦ Unit {0} | Some count ↦ elim (ticked x) [ None ↦ IsFlushCount opening before x count receipts | Some now ↦ IsTickCount timeout opening before now count receipts ] ]
 
 -- each line behind those before it
-abbrev pub AreTicksCounted : ℕ → ℕ → List Receipted → List Answered → List Answered → Type 0
-AreTicksCounted timeout opening receipts before [] = Unit {0}
-AreTicksCounted timeout opening receipts before (x ∷ xs) = IsLineCount timeout opening receipts before x × AreTicksCounted timeout opening receipts (before ++ x ∷ []) xs
+abbrev pub AreCounted : ℕ → ℕ → List Receipted → List Answered → List Answered → Type 0
+AreCounted timeout opening receipts before [] = Unit {0}
+AreCounted timeout opening receipts before (x ∷ xs) = IsLineCount timeout opening receipts before x × AreCounted timeout opening receipts (before ++ x ∷ []) xs
 
--- These lines were answered, the first ones of a script: the steps but those of the opening are those of their commands, in order, each once, with their answers; each count is that of a receipt; each tick is answered as it may be, and counts what the last receipt up to it counts.
+-- These lines were answered, the first ones of a script: the steps but those of the opening are those of their commands, in order, each once, with their answers; each count is that of a receipt; each tick is answered as it may be; and each flush and tick counts what the last receipt up to it counts.
 pub record AreAnswered (timeout : ℕ) (lines : List Line) (steps : List Step) (receipts : List Receipted) (answered : List Answered) : Type 0 where
   pub front : map (λ x. x.0) answered ≡ take (length answered) lines
   pub commands : map (λ s. (s.command, s.answer)) (own steps) ≡ all_commanded [] answered
   pub numbered : AreNumbered 1 (own steps)
   pub receipted : All (IsReceipted receipts) (filter_map counted answered)
   pub answers : AreLineAnswers (opened_in steps) timeout [] answered
-  pub ticks : AreTicksCounted timeout (length (rolled steps)) receipts [] answered
+  pub counts : AreCounted timeout (length (rolled steps)) receipts [] answered
 
 -- ---- how a replay ends
 
