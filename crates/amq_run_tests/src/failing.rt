@@ -2,8 +2,8 @@
 
 use crate::disks::{DATA_FILE, File, disk_of};
 use crate::running::{
-    DISK_FAULT, Ended, Left, REPLAY, SINK_FAULT, SOURCE_FAULT, Streams, check_ended, last_count,
-    named, run,
+    COMMIT, DISK_FAULT, Ended, Left, PRINT, REPLAY, SINK_FAULT, SOURCE_FAULT, Streams, check_ended,
+    last_count, named, run,
 };
 use amq_io::Disk;
 use amq_samples::{ADD_TX, HEADER, NARROW, SMALL, Sizes};
@@ -26,6 +26,7 @@ type End = (&'static [u8], Option<Option<u64>>, Option<usize>);
 struct Row {
     name: &'static str,
     sizes: Sizes,
+    words: &'static [&'static str],
     file: Option<File>,
     script: &'static [u8],
     piece: u64,
@@ -42,6 +43,7 @@ const ROWS: &[Row] = &[
     Row {
         name: "a disk that fails",
         sizes: SMALL,
+        words: REPLAY,
         file: None,
         script: b"add 1 7 6869\nflush\ndelete 1\n",
         piece: 4096,
@@ -74,6 +76,7 @@ const ROWS: &[Row] = &[
     Row {
         name: "a disk that fails at a further file",
         sizes: NARROW,
+        words: REPLAY,
         file: None,
         script: b"add 1 7 6869\nadd 2 7 6869\nadd 3 7 6869\n",
         piece: 4096,
@@ -103,6 +106,7 @@ const ROWS: &[Row] = &[
     Row {
         name: "an opening that fails",
         sizes: SMALL,
+        words: REPLAY,
         file: Some(File {
             name: DATA_FILE,
             pieces: &[HEADER, ADD_TX],
@@ -131,6 +135,7 @@ const ROWS: &[Row] = &[
     Row {
         name: "a source that fails",
         sizes: SMALL,
+        words: REPLAY,
         file: None,
         script: b"add 1 7 6869\nadd 1 7 -\ndelete 2\n",
         piece: 8,
@@ -150,6 +155,7 @@ const ROWS: &[Row] = &[
     Row {
         name: "a sink that fails",
         sizes: SMALL,
+        words: REPLAY,
         file: None,
         script: b"add 1 7 6869\nadd 1 7 -\ndelete 2\n",
         piece: 16,
@@ -170,6 +176,91 @@ const ROWS: &[Row] = &[
                 b"ok 0\nrefused AlreadyLive 1\nrefused NoRecord 2\nlive 1\nadd 1 7 686",
                 None,
                 None,
+            ),
+        ],
+    },
+    // A print lists and reads the one file that there is.
+    Row {
+        name: "a print with a disk that fails",
+        sizes: SMALL,
+        words: PRINT,
+        file: Some(File {
+            name: DATA_FILE,
+            pieces: &[HEADER, ADD_TX],
+            len: 256,
+            fill: b'J',
+        }),
+        script: b"",
+        piece: 4096,
+        fails: Fails::Disk,
+        first: 1,
+        ended: DISK_FAULT,
+        moment: None,
+        ends: &[(b"", Some(None), Some(0)), (b"", Some(None), Some(0))],
+    },
+    // Its text has 18 bytes, so the sink is given it in two pieces.
+    Row {
+        name: "a print with a sink that fails",
+        sizes: SMALL,
+        words: PRINT,
+        file: None,
+        script: b"",
+        piece: 16,
+        fails: Fails::Sink,
+        first: 1,
+        ended: SINK_FAULT,
+        moment: Some(1),
+        ends: &[
+            (b"", Some(None), Some(0)),
+            (b"live 0\nin doubt ", Some(None), Some(0)),
+        ],
+    },
+    // A settling makes the calls of an opening, and the list and two reads at the end.
+    Row {
+        name: "a settling with a disk that fails",
+        sizes: SMALL,
+        words: COMMIT,
+        file: None,
+        script: b"",
+        piece: 4096,
+        fails: Fails::Disk,
+        first: 1,
+        ended: DISK_FAULT,
+        moment: None,
+        ends: &[
+            (b"", Some(None), Some(0)),
+            (b"", None, Some(0)),
+            (b"", None, Some(0)),
+            (b"", None, Some(0)),
+            (b"", None, Some(0)),
+            (b"", None, Some(0)),
+            (b"", None, Some(0)),
+            (b"", None, Some(0)),
+            (b"", None, Some(0)),
+            (b"refused NoTx 1\n", Some(Some(0)), Some(1)),
+            (b"refused NoTx 1\n", Some(Some(0)), Some(1)),
+            (b"refused NoTx 1\n", Some(Some(0)), Some(1)),
+        ],
+    },
+    // Its text has 33 bytes.
+    Row {
+        name: "a settling with a sink that fails",
+        sizes: SMALL,
+        words: COMMIT,
+        file: None,
+        script: b"",
+        piece: 16,
+        fails: Fails::Sink,
+        first: 1,
+        ended: SINK_FAULT,
+        moment: None,
+        ends: &[
+            (b"", Some(Some(0)), Some(1)),
+            (b"refused NoTx 1\nl", Some(Some(0)), Some(1)),
+            (
+                b"refused NoTx 1\nlive 0\nin doubt 0",
+                Some(Some(0)),
+                Some(1),
             ),
         ],
     },
@@ -212,7 +303,14 @@ fn check_end(rt: &impl Abort, alloc: Global, row: &Row, call: u64, end: &End) ->
     let name = named(alloc, row.name, call)?;
     let (fails, streams) = failing(row, call);
     let disk = disk_of(alloc, row.file, fails)?;
-    let left = run(alloc, Some(row.sizes), REPLAY, row.script, disk, &streams)?;
+    let left = run(
+        alloc,
+        Some(row.sizes),
+        row.words,
+        row.script,
+        disk,
+        &streams,
+    )?;
     check_ended(rt, alloc, name.as_str(), &left, &row.ended, end.0)?;
     check_left(rt, name.as_str(), row.moment, end, &left);
     Ok(())

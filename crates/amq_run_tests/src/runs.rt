@@ -79,6 +79,11 @@ const OF_USER_VERSION_5: Ended = Ended {
     code: 7,
 };
 
+const OF_ONE_ID: Ended = Ended {
+    status: "Directory { fault: TwoFiles { id: 1, first: Name { text: \"activemq-data-1.amq\" }, second: Name { text: \"activemq-data-2.amq\" } } }",
+    code: 7,
+};
+
 const FILE_IDS_SPENT: Ended = Ended {
     status: "FileIdsSpent { highest: 2147483647 }",
     code: 10,
@@ -96,6 +101,17 @@ const GREATEST_HEADER: &[u8] = b"\x00\x00\x00\x02\x00\x00\x00\x00\x00\x00\x00\x0
 
 const ADD_IN_GREATEST: &[u8] =
     b"\x0b\x7f\xff\xff\xff\x00\x00\x00\x00\x00\x00\x00\x00\x01\x00\x00\x00\x02\x07\x68\x69\x00\x00\x00\x19";
+
+/// The headers of the file of the id before the greatest, and of the one before that.
+const LAST_BUT_ONE_HEADER: &[u8] =
+    b"\x00\x00\x00\x02\x00\x00\x00\x00\x00\x00\x00\x00\x7f\xff\xff\xfe";
+
+const LAST_BUT_TWO_HEADER: &[u8] =
+    b"\x00\x00\x00\x02\x00\x00\x00\x00\x00\x00\x00\x00\x7f\xff\xff\xfd";
+
+/// Adds with no body of the transactions 1 to 3 in the file of the id before the greatest.
+const OPEN_IN_LAST_BUT_ONE: &[u8] =
+    b"\x0d\x7f\xff\xff\xfe\x00\x00\x00\x00\x00\x00\x00\x00\x01\x00\x00\x00\x00\x00\x00\x00\x01\x00\x00\x00\x00\x07\x00\x00\x00\x1f\x0d\x7f\xff\xff\xfe\x00\x00\x00\x00\x00\x00\x00\x00\x02\x00\x00\x00\x00\x00\x00\x00\x02\x00\x00\x00\x00\x07\x00\x00\x00\x1f\x0d\x7f\xff\xff\xfe\x00\x00\x00\x00\x00\x00\x00\x00\x03\x00\x00\x00\x00\x00\x00\x00\x03\x00\x00\x00\x00\x07\x00\x00\x00\x1f";
 
 /// A rollback of the greatest transaction number.
 const GREATEST_ROLLBACK: &[u8] =
@@ -316,6 +332,12 @@ const OF_VERSION: File = File {
 const WITH_ADD: File = File {
     pieces: &[HEADER, ADD],
     ..OF_VERSION
+};
+
+/// The same under another name.
+const WITH_ADD_AGAIN: File = File {
+    name: SECOND_FILE,
+    ..WITH_ADD
 };
 
 /// A file filled with zeros.
@@ -773,6 +795,35 @@ const DIRECTORIES: &[Row] = &[
         ended: DIRECTORY_NOT_BUILT,
         ..PRINTED
     },
+    // A call makes each of three files of other names, and the print makes a list and one read.
+    Row {
+        name: "a print that reads no file of another name",
+        file: Some(WITH_ADD),
+        puts: LEFTOVERS,
+        text: &[FIRST],
+        moment: Some(5),
+        same: true,
+        ..PRINTED
+    },
+    // Two files of one id.
+    Row {
+        name: "a print of two files of one id",
+        file: Some(WITH_ADD),
+        puts: &[WITH_ADD_AGAIN],
+        ended: OF_ONE_ID,
+        same: true,
+        ..PRINTED
+    },
+    Row {
+        name: "a replay of two files of one id",
+        file: Some(WITH_ADD),
+        puts: &[WITH_ADD_AGAIN],
+        ended: OF_ONE_ID,
+        last: Some(None),
+        same: true,
+        holds: &[("activemq-data-3.amq", Holds::Gone)],
+        ..REPLAYED
+    },
     // Neither a replay nor a settling changes a directory with a fault.
     Row {
         name: "a replay of another version",
@@ -886,6 +937,35 @@ const OPENINGS: &[Row] = &[
         on: On::Left,
         text: &[FIRST],
         ..PRINTED
+    },
+    // The opening begins a file of the number before the greatest, and the second add goes on to the one of
+    // the greatest. The third needs a further file, and there is no number for it.
+    Row {
+        name: "a move behind the greatest file id",
+        file: Some(File {
+            pieces: &[LAST_BUT_TWO_HEADER],
+            ..OF_VERSION
+        }),
+        sizes: Some(NARROW),
+        script: &[b"add 1 7 6869\nadd 2 7 796f\nadd 3 7 6869\n"],
+        text: &[
+            b"ok 0\nok 1\nrefused FileIdsSpent 2147483647\nlive 2\nadd 1 7 6869\nadd 2 7 796f\nin doubt 0\n",
+        ],
+        ..REPLAYED
+    },
+    // The file of the greatest number has room for two rollbacks, and there are three.
+    Row {
+        name: "rollbacks behind the greatest file id",
+        file: Some(File {
+            pieces: &[LAST_BUT_ONE_HEADER, OPEN_IN_LAST_BUT_ONE],
+            ..OF_VERSION
+        }),
+        sizes: Some(NARROW),
+        script: &[SHORT_SCRIPT],
+        ended: FILE_IDS_SPENT,
+        last: Some(Some(0)),
+        same: true,
+        ..REPLAYED
     },
     // The greatest number of a transaction is used, so there is none for another one.
     Row {
