@@ -1,4 +1,5 @@
 pub mod Called
+pub mod FailingExamples
 pub mod Ordered
 pub mod Picking
 pub mod Pieces

@@ -1,5 +1,6 @@
 pub mod Cause
 pub mod Entries
+pub mod Failing
 pub mod Faults
 pub mod Left
 pub mod Listed

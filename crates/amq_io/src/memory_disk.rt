@@ -1,13 +1,16 @@
-ghost use Rattle.std.specs.Prelude.{◌≡◌, ◌≢◌, [], map, option_map, OnOk, OnErr, IfOk, Some, Err};
+ghost use Rattle.std.specs.Prelude.{◌≡◌, ◌≢◌, ◌+◌, [], length, map, option_map, OnOk, OnErr, IfOk, Some, Err};
 ghost use Rattle.std.specs.List.{AllPairs};
 ghost use Rattle.std.specs.FinMap as finite;
-ghost use Rattle.amq_model.specs.Calls.{after, counted, passed};
+ghost use Rattle.amq_model.specs.Calls.{after, counted, listing, reading, creating, writing, syncing, renaming, removing};
+ghost use Rattle.amq_model.specs.Leaves.{IsThere, IsWithin, HasBytes};
+ghost use Rattle.amq_model.specs.Name.{HasNameForm};
+ghost use Rattle.amq_io.specs.Listed.{IsListed};
 ghost use Rattle.amq_io.specs.Notes.{Notes};
 ghost use Rattle.amq_io.specs.Cause.{HasCause};
 ghost use Rattle.amq_io.specs.Entries.{files_of, synced_of, durable_pair, call_of, IsInside, IsUnchanged};
 ghost use Rattle.amq_io.specs.Synced.{synced_by};
 ghost use Rattle.amq_io.specs.Torn.{IsLeftOf};
-ghost use Rattle.amq_io.specs.MemoryDisk.{outcome_of, past_of, content_of, last_synced_of, HoldsFiles, IsFresh, MayBeLeft};
+ghost use Rattle.amq_io.specs.MemoryDisk.{outcome_of, past_of, content_of, last_synced_of, HoldsFiles, IsFresh, MayBeLeft, RunsAsTold};
 
 use crate::asked::{Asked, PastCall};
 use crate::crash::left_files;
@@ -40,7 +43,7 @@ impl Model for MemoryDisk {
 
     ghost Value = { Memory };
 
-    ghost view = { λ d. record { start = map (λ f. durable_pair f.0 f.1.items) d.start.items; calls = reverse (map event_of d.calls.items); moment = d.moment; faults = d.faults; last = d.last } };
+    ghost view = { λ d. record { start = map (λ f. durable_pair f.0 f.1.items) d.start.items; calls = reverse (map event_of d.calls.items); moment = d.moment; fails = d.fails.items; faults = d.faults; last = d.last } };
 
     ghost invariant = { λ d. (files_of d.files.items ≡ content (from_pairs (map (λ f. durable_pair f.0 f.1.items) d.start.items)) (reverse (map event_of d.calls.items)))
         × (synced_of d.files.items ≡ last_synced (from_pairs (map (λ f. durable_pair f.0 f.1.items) d.start.items)) (reverse (map event_of d.calls.items)))
@@ -89,6 +92,7 @@ impl MemoryDisk {
     ) -> Result<MemoryDisk, NoMemory>
         ensures fresh { IfOk result IsFresh }
         ensures start { IfOk result (λ d. d.start ≡ map (λ f. durable_pair f.0 f.1.items) start.items) }
+        ensures fails { IfOk result (λ d. d.fails ≡ fails.items) }
     {
         let Ok(files) = entries_of(alloc, &start) else {
             return Err(NoMemory);
@@ -108,8 +112,7 @@ impl MemoryDisk {
     // A call that didn't begin for want of memory.
     fn refuse<T: Drop>(&mut self) -> Result<T, DiskError>
         ensures memory { result ≡ Err DiskError.NoMemory }
-        ensures passed { past_of self.new ≡ passed (past_of self.old) }
-        ensures faults { (self.new.faults ≡ self.old.faults) × (self.new.last ≡ self.old.last) }
+        ensures passed { self.new ≡ record { start = self.old.start; calls = self.old.calls; moment = counted self.old.moment; fails = self.old.fails; faults = self.old.faults; last = self.old.last } }
     {
         self.moment = self.moment.saturating_add(1);
         Err(DiskError::NoMemory)
@@ -121,6 +124,7 @@ impl MemoryDisk {
         ensures note { Notes (call_of asked) result (Some (past_of self.old)) (Some (past_of self.new)) }
         ensures time { self.new.moment ≡ counted self.old.moment }
         ensures cause { HasCause call result (self.old.faults, self.old.last) (self.new.faults, self.new.last) }
+        ensures runs { RunsAsTold call (call_of asked) result self.old self.new }
     {
         let before = self.moment;
         self.moment = before.saturating_add(1);
@@ -153,6 +157,7 @@ impl MemoryDisk {
     pub fn new(alloc: Global) -> Result<MemoryDisk, NoMemory>
         ensures fresh { IfOk result IsFresh }
         ensures none { IfOk result (λ d. HoldsFiles [] (content_of d)) }
+        ensures fails { IfOk result (λ d. d.fails ≡ []) }
     {
         MemoryDisk::of_files(alloc, Vec::new(alloc))
     }
@@ -162,6 +167,7 @@ impl MemoryDisk {
         requires { AllPairs (λ a b. a.0 ≢ b.0) files.items }
         ensures fresh { IfOk result IsFresh }
         ensures holds { IfOk result (λ d. HoldsFiles (map (λ e. (e.0, e.1.items)) files.items) (content_of d)) }
+        ensures fails { IfOk result (λ d. d.fails ≡ []) }
     {
         MemoryDisk::failing(alloc, files, Vec::new(alloc))
     }
@@ -177,6 +183,7 @@ impl MemoryDisk {
         requires { AllPairs (λ a b. a.0 ≢ b.0) files.items }
         ensures fresh { IfOk result IsFresh }
         ensures holds { IfOk result (λ d. HoldsFiles (map (λ e. (e.0, e.1.items)) files.items) (content_of d)) }
+        ensures fails { IfOk result (λ d. d.fails ≡ calls.items) }
     {
         MemoryDisk::started(alloc, files, calls)
     }
@@ -197,6 +204,7 @@ impl MemoryDisk {
         ensures left { IfOk result (λ d. IsLeftOf pick (content_of self.now) (last_synced_of self.now) (content_of d)) }
         ensures image { IfOk result (MayBeLeft self.now) }
         ensures fresh { IfOk result IsFresh }
+        ensures fails { IfOk result (λ d. d.fails ≡ []) }
     {
         let Ok(left) = left_files(self.alloc, &self.files, pick) else {
             return Err(NoMemory);
@@ -212,7 +220,13 @@ impl Disk for MemoryDisk {
 
     ghost faults = { λ d. (d.faults, d.last) };
 
-    fn list(&mut self) -> Result<Vec<FileInfo>, DiskError> {
+    fn list(&mut self) -> Result<Vec<FileInfo>, DiskError>
+        ensures listed { IfOk result (λ infos. IsListed infos.items (content_of self.old)) }
+        ensures note { Notes listing result (Some (past_of self.old)) (Some (past_of self.new)) }
+        ensures time { self.new.moment ≡ counted self.old.moment }
+        ensures cause { HasCause DiskCall.List result (self.old.faults, self.old.last) (self.new.faults, self.new.last) }
+        ensures runs { RunsAsTold DiskCall.List listing result self.old self.new }
+    {
         let Ok(infos) = list(self.alloc, &self.files) else {
             return self.refuse();
         };
@@ -220,7 +234,14 @@ impl Disk for MemoryDisk {
         Ok(infos)
     }
 
-    fn read(&mut self, name: &str) -> Result<Vec<u8>, DiskError> {
+    fn read(&mut self, name: &str) -> Result<Vec<u8>, DiskError>
+        requires { IsThere name.now (content_of self.old) }
+        ensures bytes { IfOk result (λ bytes. HasBytes name.now bytes.items (content_of self.old)) }
+        ensures note { Notes (reading name.now) result (Some (past_of self.old)) (Some (past_of self.new)) }
+        ensures time { self.new.moment ≡ counted self.old.moment }
+        ensures cause { HasCause DiskCall.Read result (self.old.faults, self.old.last) (self.new.faults, self.new.last) }
+        ensures runs { RunsAsTold DiskCall.Read (reading name.now) result self.old self.new }
+    {
         let Ok(asked) = String::from_str(self.alloc, name) else {
             return self.refuse();
         };
@@ -234,7 +255,13 @@ impl Disk for MemoryDisk {
         Ok(bytes)
     }
 
-    fn create(&mut self, name: &str, len: u64, fill: u8) -> Result<(), DiskError> {
+    fn create(&mut self, name: &str, len: u64, fill: u8) -> Result<(), DiskError>
+        requires { HasNameForm name.now }
+        ensures note { Notes (creating name.now len fill) result (Some (past_of self.old)) (Some (past_of self.new)) }
+        ensures time { self.new.moment ≡ counted self.old.moment }
+        ensures cause { HasCause DiskCall.Create result (self.old.faults, self.old.last) (self.new.faults, self.new.last) }
+        ensures runs { RunsAsTold DiskCall.Create (creating name.now len fill) result self.old self.new }
+    {
         match Name::of(self.alloc, name) {
             Ok(Some(name)) => self.run(DiskCall::Create, Asked::Create(name, len, fill)),
             Ok(None) => unreachable!(),
@@ -242,7 +269,14 @@ impl Disk for MemoryDisk {
         }
     }
 
-    fn write_at(&mut self, name: &str, place: u64, bytes: &[u8]) -> Result<(), DiskError> {
+    fn write_at(&mut self, name: &str, place: u64, bytes: &[u8]) -> Result<(), DiskError>
+        requires there { IsThere name.now (content_of self.old) }
+        requires within { IsWithin name.now (place + length bytes.now) (content_of self.old) }
+        ensures note { Notes (writing name.now place bytes.now) result (Some (past_of self.old)) (Some (past_of self.new)) }
+        ensures time { self.new.moment ≡ counted self.old.moment }
+        ensures cause { HasCause DiskCall.WriteAt result (self.old.faults, self.old.last) (self.new.faults, self.new.last) }
+        ensures runs { RunsAsTold DiskCall.WriteAt (writing name.now place bytes.now) result self.old self.new }
+    {
         let Ok(name) = String::from_str(self.alloc, name) else {
             return self.refuse();
         };
@@ -252,14 +286,27 @@ impl Disk for MemoryDisk {
         self.run(DiskCall::WriteAt, Asked::WriteAt(name, place, bytes))
     }
 
-    fn sync(&mut self, name: &str) -> Result<(), DiskError> {
+    fn sync(&mut self, name: &str) -> Result<(), DiskError>
+        requires { IsThere name.now (content_of self.old) }
+        ensures note { Notes (syncing name.now) result (Some (past_of self.old)) (Some (past_of self.new)) }
+        ensures time { self.new.moment ≡ counted self.old.moment }
+        ensures cause { HasCause DiskCall.Sync result (self.old.faults, self.old.last) (self.new.faults, self.new.last) }
+        ensures runs { RunsAsTold DiskCall.Sync (syncing name.now) result self.old self.new }
+    {
         match String::from_str(self.alloc, name) {
             Ok(name) => self.run(DiskCall::Sync, Asked::Sync(name)),
             Err(_) => self.refuse(),
         }
     }
 
-    fn rename(&mut self, from: &str, to: &str) -> Result<(), DiskError> {
+    fn rename(&mut self, from: &str, to: &str) -> Result<(), DiskError>
+        requires there { IsThere from.now (content_of self.old) }
+        requires named { HasNameForm to.now }
+        ensures note { Notes (renaming from.now to.now) result (Some (past_of self.old)) (Some (past_of self.new)) }
+        ensures time { self.new.moment ≡ counted self.old.moment }
+        ensures cause { HasCause DiskCall.Rename result (self.old.faults, self.old.last) (self.new.faults, self.new.last) }
+        ensures runs { RunsAsTold DiskCall.Rename (renaming from.now to.now) result self.old self.new }
+    {
         let Ok(from) = String::from_str(self.alloc, from) else {
             return self.refuse();
         };
@@ -270,7 +317,13 @@ impl Disk for MemoryDisk {
         }
     }
 
-    fn remove(&mut self, name: &str) -> Result<(), DiskError> {
+    fn remove(&mut self, name: &str) -> Result<(), DiskError>
+        requires { IsThere name.now (content_of self.old) }
+        ensures note { Notes (removing name.now) result (Some (past_of self.old)) (Some (past_of self.new)) }
+        ensures time { self.new.moment ≡ counted self.old.moment }
+        ensures cause { HasCause DiskCall.Remove result (self.old.faults, self.old.last) (self.new.faults, self.new.last) }
+        ensures runs { RunsAsTold DiskCall.Remove (removing name.now) result self.old self.new }
+    {
         match String::from_str(self.alloc, name) {
             Ok(name) => self.run(DiskCall::Remove, Asked::Remove(name)),
             Err(_) => self.refuse(),

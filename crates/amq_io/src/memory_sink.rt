@@ -1,4 +1,6 @@
-ghost use Rattle.std.specs.Prelude.{◌≡◌, ◌≤◌, [], Some};
+ghost use Rattle.std.specs.Prelude.{◌≡◌, ◌<◌, ◌≤◌, [], Some, Err, IfOk, OnOk, OnErr, length};
+ghost use Rattle.amq_io.specs.Cause.{Rose};
+ghost use Rattle.amq_io.specs.Streams.{Takes, WritesAsTold};
 
 use crate::{Sink, SinkError};
 use std::alloc::Global;
@@ -20,7 +22,7 @@ impl Model for MemorySink {
 
     ghost Value = { Stream };
 
-    ghost view = { λ s. record { bytes = s.bytes.items; faults = s.faults } };
+    ghost view = { λ s. record { bytes = s.bytes.items; piece = s.piece; calls = s.calls; fails = s.fails.items; faults = s.faults } };
 
     ghost invariant = { λ s. 1 ≤ s.piece };
 }
@@ -31,6 +33,9 @@ impl MemorySink {
     pub fn new(alloc: Global, piece: u64, fails: Vec<u64>) -> MemorySink
         requires { 1 ≤ piece }
         ensures bytes { result.bytes ≡ [] }
+        ensures piece { result.piece ≡ piece }
+        ensures calls { result.calls ≡ 0 }
+        ensures fails { result.fails ≡ fails.items }
         ensures faults { result.faults ≡ 0 }
     {
         MemorySink {
@@ -55,16 +60,27 @@ impl Sink for MemorySink {
 
     ghost faults = { λ s. s.faults };
 
-    fn write(&mut self, bytes: &[u8]) -> Result<usize, SinkError> {
+    /// Takes as many bytes as there are and as one call takes. A call that is to fail takes nothing.
+    fn write(&mut self, bytes: &[u8]) -> Result<usize, SinkError>
+        ensures bound { IfOk result (λ n. n ≤ length bytes.now) }
+        ensures some { IfOk result (λ n. 0 < length bytes.now → 1 ≤ n) }
+        ensures next { IfOk result (λ n. Takes n bytes.now (Some self.old.bytes) (Some self.new.bytes)) }
+        ensures nothing { OnErr result (self.new.bytes ≡ self.old.bytes) }
+        ensures later { self.old.faults ≤ self.new.faults }
+        ensures sound { OnOk result (self.new.faults ≡ self.old.faults) }
+        ensures memory { result ≡ Err SinkError.NoMemory → self.new.faults ≡ self.old.faults }
+        ensures failed { result ≡ Err SinkError.Failed → Rose self.old.faults self.new.faults }
+        ensures writes { WritesAsTold bytes.now result self.old self.new }
+    {
         self.calls = self.calls.saturating_add(1);
         if self.fails.contains(&self.calls) {
             self.faults = self.faults.saturating_add(1);
             return Err(SinkError::Failed);
         }
         let len = bytes.len().min(self.piece as usize);
-        match self.bytes.extend_from_slice(&bytes[..len]) {
-            Ok(()) => Ok(len),
-            Err(_) => Err(SinkError::NoMemory),
+        if self.bytes.extend_from_slice(&bytes[..len]).is_err() {
+            return Err(SinkError::NoMemory);
         }
+        Ok(len)
     }
 }
