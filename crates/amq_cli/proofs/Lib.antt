@@ -13,3 +13,5 @@ pub mod OwedExamples
 pub mod Recovering
 pub mod Beginning
 pub mod Digits
+pub mod Causes
+pub mod EndedExamples

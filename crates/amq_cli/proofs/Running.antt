@@ -20,12 +20,13 @@ use Rattle.amq_engine.specs.Lists.{Lists}
 use Rattle.amq_model.specs.declared.directory.OpenFault.{OpenFault}
 use Rattle.amq_model.specs.declared.directory.OpenFault.TheVariants as o
 use Rattle.amq_engine.specs.declared.chronicle.Kept.{Kept}
-use Rattle.amq_engine.specs.Engine.{EngineOf, receipted, HasCause}
+use Rattle.amq_engine.specs.Engine.{EngineOf, receipted}
 use Rattle.amq_engine.specs.Opening.{AreRolledBack, HasOpenCause}
 use Rattle.amq_engine.specs.Receipts.{IsLastCount}
 use Rattle.amq_cli.specs.declared.status.Status.{Status}
 use Rattle.amq_cli.specs.declared.status.Status.TheVariants as s
 use Rattle.amq_cli.specs.Statuses.{status_of, status_of_opening}
+use Rattle.amq_cli.specs.Ended.{HasReplayCause}
 use Rattle.amq_cli.specs.Playing.{HasPlayed}
 use Rattle.amq_cli.specs.Offline.{lists_of, HasText, HasRunOn, IsEnding, IsDiskLine, IsLoadedState, AreAll, HasDiskCause, HasRunCause, is_of_refused}
 use Rattle.amq_cli.specs.Replay.{Answered, reply_lines, AreAnswered, AreNumbered, HasEnded, HasReplayed, IsLast, IsClosedBy, is_for_memory, own, rolled}
@@ -145,7 +146,7 @@ reported_text config (s.FileIdsSpent highest) lines first last was now base step
 reported_text config (s.NotBuilt part) lines first last was now base steps receipts before after past replayed ran unreported cause = absurd cause
 
 -- a refusal for a disk call names the one that failed last, also behind a closing that makes no call
-pub named_refusal : (T : Type 0) (refusal : Refusal) (was now later : Faults) (closed : Option DiskCall) → HasCause {T = T} (Err refusal) was now → IsClosedBy refusal closed → (IsSome closed → later ≡ now) → IsNamed refusal was later
+pub named_refusal : (T : Type 0) (refusal : Refusal) (was now later : Faults) (closed : Option DiskCall) → HasReplayCause {T = T} (Err refusal) was now → IsClosedBy refusal closed → (IsSome closed → later ≡ now) → IsNamed refusal was later
 named_refusal T (r.Disk call) was now later closed cause by idle = subst (IsNamed (r.Disk call) was) (sym (idle (subst IsSome (sym by) refl))) cause
 named_refusal T (r.Closed fault) was now later closed cause by idle = tt
 named_refusal T (r.TooLarge len limit) was now later closed cause by idle = tt
@@ -316,7 +317,7 @@ between_cause (s.Directory fault) was first now le cause = absurd cause
 between_cause (s.FileIdsSpent highest) was first now le cause = absurd cause
 between_cause (s.NotBuilt part) was first now le cause = absurd cause
 
-pub refusal_cause : (T : Type 0) (refusal : Refusal) (was first now last : Faults) → was.0 ≤ first.0 → now.0 ≤ last.0 → HasCause {T = T} (Err refusal) first now → HasDiskCause (status_of refusal) was last
+pub refusal_cause : (T : Type 0) (refusal : Refusal) (was first now last : Faults) → was.0 ≤ first.0 → now.0 ≤ last.0 → HasReplayCause {T = T} (Err refusal) first now → HasDiskCause (status_of refusal) was last
 refusal_cause T (r.Disk call) was first now last before behind cause = later (cause.0) where
   later : Rose first.0 now.0 → Rose was.0 last.0
   later rose = omega (arith, before, behind, rose)

@@ -6,6 +6,7 @@ ghost use Rattle.amq_engine.specs.Engine.{HasCause, is_noted};
 ghost use Rattle.amq_engine.specs.Receipts.{GoesOn};
 ghost use Rattle.amq_cli.specs.Offline.{lists_of};
 ghost use Rattle.amq_cli.specs.Replay.{Answered, sent, with_number, begun_number, is_begin, line_of, HasEnded, HasReplayed, IsLast, IsClosedBy, is_built, is_for_memory};
+ghost use Rattle.amq_cli.specs.Ended.{HasReplayCause};
 ghost use Rattle.amq_cli.specs.Labelled.{number_in};
 ghost use Rattle.amq_cli.specs.Outcomes.{answer_in, text_in};
 ghost use Rattle.amq_cli.specs.Owed.{HasOwed};
@@ -239,7 +240,7 @@ fn play_line<D: Disk>(
     ensures next { number.new ≤ number.old + 1 }
     ensures open { OnOk result (engine.new.closed ≡ None) }
     ensures same { (engine.new.config ≡ engine.old.config) × (engine.new.chronicle.base ≡ engine.old.chronicle.base) }
-    ensures cause { HasCause result (D.faults engine.old.disk) (D.faults engine.new.disk) }
+    ensures cause { HasReplayCause result (D.faults engine.old.disk) (D.faults engine.new.disk) }
     ensures later { (D.faults engine.old.disk).0 ≤ (D.faults engine.new.disk).0 }
     ensures goes_on { GoesOn (D.past engine.old.disk) (D.past engine.new.disk) }
     ensures first { KeepsFirst (lists_of engine.old.chronicle) (lists_of engine.new.chronicle) }
@@ -273,7 +274,7 @@ pub fn replay<D: Disk>(
     ensures closes { IfErr result (λ refusal. IsClosedBy refusal engine.new.closed) }
     ensures open { OnOk result (engine.new.closed ≡ None) }
     ensures same { (engine.new.config ≡ engine.old.config) × (engine.new.chronicle.base ≡ engine.old.chronicle.base) }
-    ensures cause { HasCause result (D.faults engine.old.disk) (D.faults engine.new.disk) }
+    ensures cause { HasReplayCause result (D.faults engine.old.disk) (D.faults engine.new.disk) }
     ensures later { (D.faults engine.old.disk).0 ≤ (D.faults engine.new.disk).0 }
     ensures goes_on { GoesOn (D.past engine.old.disk) (D.past engine.new.disk) }
     ensures first { KeepsFirst (lists_of engine.old.chronicle) (lists_of engine.new.chronicle) }

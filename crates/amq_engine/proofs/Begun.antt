@@ -24,7 +24,7 @@ use Rattle.amq_buffer.specs.Buffered.{Buffered}
 use Rattle.amq_header.specs.Classes.{data_name, temporary_name}
 use Rattle.amq_header.proofs.Made.{data_is_read}
 use Rattle.amq_io.specs.Faults.{HasFault}
-use Rattle.amq_io.specs.Cause.{Faults}
+use Rattle.amq_io.specs.Cause.{Faults, NoneFailed}
 use Rattle.amq_io.specs.declared.faults.DiskFault.{DiskFault}
 use Rattle.amq_io.specs.declared.faults.DiskFault.TheVariants as f
 use Rattle.amq_scan.specs.Segments.{Segment, records_of, AreAscending, IsNamed, IsClosedDirectory, IsDirectory}
@@ -332,6 +332,6 @@ told_begun files highest id count None is same low told = tt
 told_begun files highest id count (Some p) is same low told = (highest, subst (λ (k : ℕ). HasNumbers k highest (content p.start p.calls)) (sym same) told, is, low)
 
 -- a fault behind calls of which none failed
-pub behind_fault : (T : Type 0) (fault : DiskFault) (config : Config) (lists : Option Lists) (old new : Option Past) (was mid now : Faults) → was.0 ≤ mid.0 → mid.1 ≡ was.1 → HasFault {T = T} (Err fault) mid now → HasOpenCause config (open_fault fault) lists old new was now
-behind_fault T (f.Disk call) config lists old new was mid now later same cause = (omega (arith, later, cause.0), cause.2)
-behind_fault T f.NoMemory config lists old new was mid now later same cause = cause.1 ∙ same
+pub behind_fault : (T : Type 0) (fault : DiskFault) (config : Config) (lists : Option Lists) (old new : Option Past) (was mid now : Faults) → NoneFailed was mid → HasFault {T = T} (Err fault) mid now → HasOpenCause config (open_fault fault) lists old new was now
+behind_fault T (f.Disk call) config lists old new was mid now none cause = (omega (arith, none.0, cause.0), cause.2)
+behind_fault T f.NoMemory config lists old new was mid now none cause = (omega (arith, none.0, cause.0), cause.1 ∙ none.1)

@@ -195,7 +195,7 @@ not_in_another_file h = let file : ◌≡◌ {A = ℕ} 5 2147483647 = h.2 in ome
 -- ---- why it failed
 
 pub spent_behind_a_rollback : HasOpenCause config (o.FileIdsSpent (2 ^ 31 - 1)) (Some full) None None (3, Some Read) (3, Some Read)
-spent_behind_a_rollback = (refl, inr (refl, (the_next_needs_a_file, tt)))
+spent_behind_a_rollback = ((refl, refl), inr (refl, (the_next_needs_a_file, tt)))
 
 pub not_spent_at_five : HasOpenCause config (o.FileIdsSpent 5) (Some full) None None (3, None) (3, None) → ⊥
 not_spent_at_five (same, inl h) = omega (arith, h.0)
@@ -208,7 +208,7 @@ pub not_without_a_failed_call : HasOpenCause config (o.Disk Sync) None None None
 not_without_a_failed_call h = omega (arith, h.0)
 
 pub no_memory : HasOpenCause config o.NoMemory None None None (3, Some Read) (3, Some Read)
-no_memory = refl
+no_memory = (refl, refl)
 
 -- no control file is found behind the first receipt
 pub not_built_before_the_base : HasOpenCause config o.NotBuilt (Some full) None None (3, None) (3, None) → ⊥

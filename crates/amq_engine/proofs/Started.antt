@@ -12,7 +12,7 @@ use Rattle.amq_model.specs.Calls.{Past, content}
 use Rattle.amq_model.specs.Files.{Files}
 use Rattle.amq_model.specs.Leaves.{Told}
 use Rattle.amq_model.specs.Legal.{rolled_back, AreLegalOfRefused}
-use Rattle.amq_io.specs.Cause.{Faults}
+use Rattle.amq_io.specs.Cause.{Faults, NoneFailed}
 use Rattle.amq_tx.specs.State.{TxState}
 use Rattle.amq_pool.specs.declared.pool.PoolFile.{PoolFile}
 use Rattle.amq_pool.specs.Pools.{PoolOf, ids_of}
@@ -138,16 +138,16 @@ on_err (Err e) P p = p
 -- ---- why it failed
 
 -- a rollback that failed, behind calls of which none did
-pub roll_cause : (fault : OpenFault) (config : Config) (lists : Option Lists) (old new : Option Past) (was mid now : Faults) → was.0 ≤ mid.0 → mid.1 ≡ was.1 → IfSome lists (λ l. Told old (HasBase config.user_version l.base)) → HasRollCause config fault lists mid now → HasOpenCause config fault lists old new was now
-roll_cause o.NotBuilt config lists old new was mid now later same based cause = absurd cause
-roll_cause (o.Directory found) config lists old new was mid now later same based cause = absurd cause
-roll_cause (o.FileIdsSpent highest) config lists old new was mid now later same based cause = (cause.2 ∙ same, inr (cause.0, both lists cause.1 based))
+pub roll_cause : (fault : OpenFault) (config : Config) (lists : Option Lists) (old new : Option Past) (was mid now : Faults) → NoneFailed was mid → IfSome lists (λ l. Told old (HasBase config.user_version l.base)) → HasRollCause config fault lists mid now → HasOpenCause config fault lists old new was now
+roll_cause o.NotBuilt config lists old new was mid now none based cause = absurd cause
+roll_cause (o.Directory found) config lists old new was mid now none based cause = absurd cause
+roll_cause (o.FileIdsSpent highest) config lists old new was mid now none based cause = ((omega (arith, none.0, cause.2.0), cause.2.1 ∙ none.1), inr (cause.0, both lists cause.1 based))
   where
     both : (lists : Option Lists) → IfSome lists (NeedsFile config) → IfSome lists (λ l. Told old (HasBase config.user_version l.base)) → IfSome lists (λ l. NeedsFile config l × Told old (HasBase config.user_version l.base))
     both None needs based = tt
     both (Some l) needs based = (needs, based)
-roll_cause (o.Disk call) config lists old new was mid now later same based cause = (omega (arith, later, cause.0), cause.1)
-roll_cause o.NoMemory config lists old new was mid now later same based cause = cause ∙ same
+roll_cause (o.Disk call) config lists old new was mid now none based cause = (omega (arith, none.0, cause.0), cause.1)
+roll_cause o.NoMemory config lists old new was mid now none based cause = (omega (arith, none.0, cause.0), cause.1 ∙ none.1)
 
 -- ---- what was noted
 

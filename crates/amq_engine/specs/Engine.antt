@@ -33,7 +33,7 @@ use Rattle.amq_pool.specs.declared.pool.PoolFile.{PoolFile}
 use Rattle.amq_pool.specs.Pools.{PoolOf, IsPool, ids_of, numbered_file, with_next}
 use Rattle.amq_engine.specs.declared.chronicle.Receipted.{Receipted}
 use Rattle.amq_engine.specs.declared.tail.Tail.{Tail}
-use Rattle.amq_io.specs.Cause.{Rose, Faults}
+use Rattle.amq_io.specs.Cause.{Rose, Faults, NoneFailed}
 use Rattle.amq_io.specs.declared.faults.DiskFault.{DiskFault}
 use Rattle.amq_io.specs.declared.faults.DiskFault.TheVariants as f
 use Rattle.amq_engine.specs.Lists.{Lists, with_step, with_receipt}
@@ -450,10 +450,10 @@ Waits t lists u new = (u ≡ t) × (new ≡ lists)
 abbrev pub Wrote : ℕ → Tail → Option Lists → Tail → Option Lists → Type 0
 Wrote moment t lists u new = (u ≡ written_out t) × (new ≡ receipted (is_some t.buffer.since) t.appended (counted (counted moment)) lists)
 
--- a refusal for a disk call comes only where the count of faults rose, and names the call that failed last
+-- a refusal for a disk call comes only where the count of faults rose, and names the call that failed last; behind any other answer none has failed
 abbrev pub HasCause : {T : Type 0} → Result T Refusal → Faults → Faults → Type 0
 HasCause (Err (r.Disk call)) old new = Rose old.0 new.0 × (new.1 ≡ Some call)
-HasCause _ old new = Unit {0}
+HasCause _ old new = NoneFailed old new
 
 -- ---- opening
 

@@ -16,7 +16,7 @@ use Rattle.amq_model.specs.Legal.{rolled_back, needs_file, end_of, OpensPartly}
 use Rattle.amq_model.specs.Files.{FileName, Files, Image, IsReading}
 use Rattle.amq_model.specs.Calls.{Past}
 use Rattle.amq_model.specs.Leaves.{Told, IsThere, OnlyAsks}
-use Rattle.amq_io.specs.Cause.{Rose, Faults}
+use Rattle.amq_io.specs.Cause.{Rose, Faults, NoneFailed}
 use Rattle.amq_loader.specs.declared.faults.LoadFault.{LoadFault}
 use Rattle.amq_loader.specs.declared.faults.LoadFault.TheVariants as f
 use Rattle.amq_loader.specs.Loads.{IsFaulty, highest_number, is_leftover}
@@ -87,20 +87,20 @@ NeedsFile config l = (length l.steps < length (rolled_back l.base)) × IsTrue (n
 
 -- Why an opening failed: exactly the first fault of the directory, where it was only asked and nothing was noted; exactly where a file has the control file's name; exactly where the directory has no fault and the numbers of files are spent, or are when the rollbacks need a further file; for a disk call only where the count of faults rose, and then the one that failed last; or want of memory, where no disk call failed.
 abbrev pub HasOpenCause : Config → OpenFault → Option Lists → Option Past → Option Past → Faults → Faults → Type 0
-HasOpenCause config o.NotBuilt lists old new was now = OnlyAsks old new × Told old (IsThere control_name) × IfSome lists IsBlank × (now.1 ≡ was.1)
-HasOpenCause config (o.Directory found) lists old new was now = OnlyAsks old new × Told old (IsFaulty config.user_version found) × IfSome lists IsBlank × (now.1 ≡ was.1)
+HasOpenCause config o.NotBuilt lists old new was now = OnlyAsks old new × Told old (IsThere control_name) × IfSome lists IsBlank × NoneFailed was now
+HasOpenCause config (o.Directory found) lists old new was now = OnlyAsks old new × Told old (IsFaulty config.user_version found) × IfSome lists IsBlank × NoneFailed was now
 HasOpenCause config (o.FileIdsSpent highest) lists old new was now =
-    (now.1 ≡ was.1) × (((2 ^ 31 - 1 ≤ highest) × OnlyAsks old new × IfSome lists IsBlank × Told old (λ s. (files : ℕ) × (base : List Placed) × HasBase config.user_version base s × HasNumbers files highest s)) ⊎ ((highest ≡ 2 ^ 31 - 1) × IfSome lists (λ l. NeedsFile config l × Told old (HasBase config.user_version l.base))))
+    NoneFailed was now × (((2 ^ 31 - 1 ≤ highest) × OnlyAsks old new × IfSome lists IsBlank × Told old (λ s. (files : ℕ) × (base : List Placed) × HasBase config.user_version base s × HasNumbers files highest s)) ⊎ ((highest ≡ 2 ^ 31 - 1) × IfSome lists (λ l. NeedsFile config l × Told old (HasBase config.user_version l.base))))
 HasOpenCause config (o.Disk call) lists old new was now = Rose was.0 now.0 × (now.1 ≡ Some call)
-HasOpenCause config o.NoMemory lists old new was now = now.1 ≡ was.1
+HasOpenCause config o.NoMemory lists old new was now = NoneFailed was now
 
 -- Why a rollback of the opening wasn't appended: exactly where it needs a further file and numbers are spent; for a disk call, or for want of memory, as above.
 abbrev pub HasRollCause : Config → OpenFault → Option Lists → Faults → Faults → Type 0
 HasRollCause config o.NotBuilt lists was now = ⊥
 HasRollCause config (o.Directory found) lists was now = ⊥
-HasRollCause config (o.FileIdsSpent highest) lists was now = (highest ≡ 2 ^ 31 - 1) × IfSome lists (NeedsFile config) × (now.1 ≡ was.1)
+HasRollCause config (o.FileIdsSpent highest) lists was now = (highest ≡ 2 ^ 31 - 1) × IfSome lists (NeedsFile config) × NoneFailed was now
 HasRollCause config (o.Disk call) lists was now = Rose was.0 now.0 × (now.1 ≡ Some call)
-HasRollCause config o.NoMemory lists was now = now.1 ≡ was.1
+HasRollCause config o.NoMemory lists was now = NoneFailed was now
 
 -- ---- within an opening
 

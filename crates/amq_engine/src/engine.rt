@@ -7,6 +7,7 @@ ghost use Rattle.amq_model.specs.Effect.{result_of};
 ghost use Rattle.amq_model.specs.Legal.{AreLegalOfRefused, rolled_back, end_of};
 ghost use Rattle.amq_model.specs.declared.refusal.DiskCall.{DiskCall};
 ghost use Rattle.amq_model.specs.Answers.{history_of, refusal};
+ghost use Rattle.amq_io.specs.Cause.{NoneFailed};
 ghost use Rattle.amq_buffer.specs.Buffered.{is_due};
 ghost use Rattle.amq_loader.specs.Loads.{IsStateOf, IsTidy};
 ghost use Rattle.amq_engine.specs.Directory.{IsJournal};
@@ -117,8 +118,7 @@ impl<D: Disk, C: Chronicle> Engine<D, C> {
         ensures rolled { IfOk result (λ e. IfSome (C.lists e.0.chronicle) (λ l. AreRolledBack l.base l.steps)) }
         ensures files { IfOk result (λ e. IfSome (C.lists e.0.chronicle) (λ l. Told (D.past disk) (IsFilled config (rolled_back l.base) (history_of l.steps) e.0.file e.0.end e.0.highest e.0.free))) }
         ensures content { IfOk result (λ e. IfSome (C.lists e.0.chronicle) (λ l. Told (D.past e.0.disk) (IsJournal config.user_version l.base (history_of l.steps)))) }
-        ensures later { IfOk result (λ e. (D.faults disk).0 ≤ (D.faults e.0.disk).0) }
-        ensures failed { IfOk result (λ e. (D.faults e.0.disk).1 ≡ (D.faults disk).1) }
+        ensures faults { IfOk result (λ e. NoneFailed (D.faults disk) (D.faults e.0.disk)) }
         ensures cause { IfErr result (λ e. HasOpenCause config e.fault (C.lists e.chronicle) (D.past disk) (D.past e.disk) (D.faults disk) (D.faults e.disk)) }
         ensures failed_later { IfErr result (λ e. (D.faults disk).0 ≤ (D.faults e.disk).0) }
         ensures failed_legal { IfErr result (λ e. IfSome (C.lists e.chronicle) (λ l. AreLegalOfRefused l.base l.steps config)) }

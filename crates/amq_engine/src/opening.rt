@@ -6,6 +6,7 @@ ghost use Rattle.amq_model.specs.Effect.{result_of};
 ghost use Rattle.amq_model.specs.Legal.{rolled_back};
 ghost use Rattle.amq_model.specs.Leaves.{Leaves, Syncs, AllReads, Told, HoldsSince};
 ghost use Rattle.amq_model.specs.LoadCalls.{Makes};
+ghost use Rattle.amq_io.specs.Cause.{NoneFailed};
 ghost use Rattle.amq_io.specs.Faults.{HasFault};
 ghost use Rattle.amq_buffer.specs.Buffered.{Buffered};
 ghost use Rattle.amq_tx.specs.Follows.{Follows};
@@ -80,7 +81,7 @@ fn load_durably<D: Disk>(alloc: Global, disk: &mut D, config: &Config) -> Result
     ensures first_calls { Makes AreFirstOpeningCalls (D.past disk.old) (D.past disk.new) }
     ensures crash { Leaves Syncs Syncs (D.past disk.old) (D.past disk.new) }
     ensures cause { IfErr result (λ fault. (lists : Option Lists) → IfSome lists IsBlank → HasOpenCause config.now fault lists (D.past disk.old) (D.past disk.new) (D.faults disk.old) (D.faults disk.new)) }
-    ensures faults { OnOk result ((D.faults disk.new).1 ≡ (D.faults disk.old).1) }
+    ensures faults { OnOk result (NoneFailed (D.faults disk.old) (D.faults disk.new)) }
     ensures later { (D.faults disk.old).0 ≤ (D.faults disk.new).0 }
 {
     let loaded = match load(alloc, disk, config.user_version) {
@@ -216,7 +217,7 @@ fn find<D: Disk>(alloc: Global, disk: &mut D, config: &Config) -> Result<Found, 
     ensures first_calls { Makes AreFirstOpeningCalls (D.past disk.old) (D.past disk.new) }
     ensures crash { Leaves Syncs Syncs (D.past disk.old) (D.past disk.new) }
     ensures cause { IfErr result (λ fault. (lists : Option Lists) → IfSome lists IsBlank → HasOpenCause config.now fault lists (D.past disk.old) (D.past disk.new) (D.faults disk.old) (D.faults disk.new)) }
-    ensures faults { OnOk result ((D.faults disk.new).1 ≡ (D.faults disk.old).1) }
+    ensures faults { OnOk result (NoneFailed (D.faults disk.old) (D.faults disk.new)) }
     ensures later { (D.faults disk.old).0 ≤ (D.faults disk.new).0 }
 {
     let mut loaded = load_durably(alloc, disk, config)?;
@@ -253,7 +254,7 @@ pub fn begin<D: Disk, C: Chronicle>(
     ensures loaded { IfOk result (λ b. Told (D.past disk.old) (IsStateOf config.now.user_version b.state)) }
     ensures tidy { OnOk result (Told (D.past disk.new) IsTidy) }
     ensures cause { IfErr result (λ fault. HasOpenCause config.now fault (C.lists chronicle.new) (D.past disk.old) (D.past disk.new) (D.faults disk.old) (D.faults disk.new)) }
-    ensures faults { OnOk result ((D.faults disk.new).1 ≡ (D.faults disk.old).1) }
+    ensures faults { OnOk result (NoneFailed (D.faults disk.old) (D.faults disk.new)) }
     ensures later { (D.faults disk.old).0 ≤ (D.faults disk.new).0 }
     ensures unstepped { IfSome (C.lists chronicle.new) (λ l. l.steps ≡ []) }
     ensures crash_safe { IfSome (C.lists chronicle.new) (IsCrashSafe (D.past disk.new) (D.moment disk.new) config.now.user_version) }

@@ -5,6 +5,7 @@ ghost use Rattle.amq_model.specs.declared.history.Step.{Step};
 ghost use Rattle.amq_model.specs.Answers.{history_of};
 ghost use Rattle.amq_model.specs.Legal.{rolled_back};
 ghost use Rattle.amq_model.specs.Leaves.{Told};
+ghost use Rattle.amq_io.specs.Cause.{NoneFailed};
 ghost use Rattle.amq_tx.specs.Tables.{state_of};
 ghost use Rattle.amq_loader.specs.Loads.{IsTidy};
 ghost use Rattle.amq_engine.specs.declared.chronicle.Receipted.{Receipted};
@@ -53,7 +54,7 @@ pub fn roll_back<D: Disk, C: Chronicle>(
     ensures begun { OnOk result ((pool.new.prepared ≡ []) × (pool.new.highest ≡ tail.new.file.id)) }
     ensures later_file { OnOk result (tail.old.file.id ≤ tail.new.file.id) }
     ensures cause { IfErr result (λ fault. HasRollCause config.now fault (C.lists chronicle.new) (D.faults disk.old) (D.faults disk.new)) }
-    ensures faults { OnOk result ((D.faults disk.new).1 ≡ (D.faults disk.old).1) }
+    ensures faults { OnOk result (NoneFailed (D.faults disk.old) (D.faults disk.new)) }
     ensures later_faults { (D.faults disk.old).0 ≤ (D.faults disk.new).0 }
     ensures later { D.moment disk.old ≤ D.moment disk.new }
     ensures goes_on { GoesOn (D.past disk.old) (D.past disk.new) }
@@ -96,7 +97,7 @@ fn roll_back_next<D: Disk, C: Chronicle>(
     ensures begun { OnOk result ((pool.new.prepared ≡ []) × (pool.new.highest ≡ tail.new.file.id)) }
     ensures later_file { OnOk result (tail.old.file.id ≤ tail.new.file.id) }
     ensures cause { IfErr result (λ fault. HasRollCause config.now fault (C.lists chronicle.new) (D.faults disk.old) (D.faults disk.new)) }
-    ensures faults { OnOk result ((D.faults disk.new).1 ≡ (D.faults disk.old).1) }
+    ensures faults { OnOk result (NoneFailed (D.faults disk.old) (D.faults disk.new)) }
     ensures later_faults { (D.faults disk.old).0 ≤ (D.faults disk.new).0 }
     ensures later { D.moment disk.old ≤ D.moment disk.new }
     ensures goes_on { GoesOn (D.past disk.old) (D.past disk.new) }

@@ -6,6 +6,7 @@ ghost use Rattle.amq_model.specs.Effect.{result_of};
 ghost use Rattle.amq_model.specs.Answers.{history_of};
 ghost use Rattle.amq_model.specs.Legal.{rolled_back, AreLegalOfRefused, end_of};
 ghost use Rattle.amq_model.specs.Leaves.{Told};
+ghost use Rattle.amq_io.specs.Cause.{NoneFailed};
 ghost use Rattle.amq_tx.specs.Tables.{state_of};
 ghost use Rattle.amq_pool.specs.Pools.{ids_of};
 ghost use Rattle.amq_loader.specs.Loads.{IsStateOf, IsTidy};
@@ -67,7 +68,7 @@ fn complete<D: Disk, C: Chronicle>(
     ensures later_file { OnOk result (tail.old.file.id ≤ tail.new.file.id) }
     ensures filled { OnOk result (let n = min (config.now.min_files - (files + (tail.new.file.id + 1 - tail.old.file.id))) (2 ^ 31 - 1 - tail.new.file.id) in (pool.new.highest ≡ tail.new.file.id + n) × (pool.new.prepared ≡ files_from (tail.new.file.id + 1) n)) }
     ensures cause { IfErr result (λ fault. HasRollCause config.now fault (C.lists chronicle.new) (D.faults disk.old) (D.faults disk.new)) }
-    ensures faults { OnOk result ((D.faults disk.new).1 ≡ (D.faults disk.old).1) }
+    ensures faults { OnOk result (NoneFailed (D.faults disk.old) (D.faults disk.new)) }
     ensures later { (D.faults disk.old).0 ≤ (D.faults disk.new).0 }
     ensures goes_on { GoesOn (D.past disk.old) (D.past disk.new) }
     ensures tidy { OnOk result (Told (D.past disk.old) IsTidy → Told (D.past disk.new) IsTidy) }
@@ -104,7 +105,7 @@ pub fn start<D: Disk, C: Chronicle>(
     ensures loaded { IfOk result (λ s. Told (D.past disk.old) (IsStateOf config.now.user_version s.state)) }
     ensures rolled { OnOk result (IfSome (C.lists chronicle.new) (λ l. AreRolledBack l.base l.steps)) }
     ensures files { IfOk result (λ s. IfSome (C.lists chronicle.new) (λ l. Told (D.past disk.old) (IsFilled config.now (rolled_back l.base) (history_of l.steps) s.tail.file.id (end_of_tail s.tail) s.pool.highest (ids_of s.pool.prepared)))) }
-    ensures faults { OnOk result ((D.faults disk.new).1 ≡ (D.faults disk.old).1) }
+    ensures faults { OnOk result (NoneFailed (D.faults disk.old) (D.faults disk.new)) }
     ensures later { (D.faults disk.old).0 ≤ (D.faults disk.new).0 }
     ensures cause { IfErr result (λ fault. HasOpenCause config.now fault (C.lists chronicle.new) (D.past disk.old) (D.past disk.new) (D.faults disk.old) (D.faults disk.new)) }
     ensures failed_legal { OnErr result (IfSome (C.lists chronicle.new) (λ l. AreLegalOfRefused l.base l.steps config.now)) }

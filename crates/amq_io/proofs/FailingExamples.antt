@@ -1,7 +1,8 @@
 -- A disk, a source and a sink in memory that fail as they are told, computed at literal calls.
 use Rattle.std.proofs.Common.{◌≡◌, ℕ, true, false, List, [], ◌∷◌, None, Some, Result, Ok, Err, refl, arith}
-use Rattle.amq_model.specs.declared.refusal.DiskCall.TheVariants.{Sync}
+use Rattle.amq_model.specs.declared.refusal.DiskCall.TheVariants.{Read, Sync}
 use Rattle.amq_model.specs.Calls.{listing, fine, broken, undone}
+use Rattle.amq_io.specs.Cause.{NoneFailed}
 use Rattle.amq_io.specs.Failing.{is_to_fail}
 use Rattle.amq_io.specs.MemoryDisk.{Memory, RunsAsTold}
 use Rattle.amq_io.specs.Streams.{Stream, ReadsAsTold, WritesAsTold}
@@ -14,6 +15,12 @@ the_second_is_to_fail = refl
 
 the_third_is_not : is_to_fail (2 ∷ 4 ∷ []) 3 ≡ false
 the_third_is_not = refl
+
+none_failed : NoneFailed (3, Some Read) (3, Some Read)
+none_failed = (refl, refl)
+
+one_failed : NoneFailed (3, Some Read) (4, Some Read) → ⊥
+one_failed h = let more : ◌≡◌ {A = ℕ} 4 3 = h.0 in omega (arith, more)
 
 -- ---- a stream of three bytes, two a call, whose second call is to fail
 

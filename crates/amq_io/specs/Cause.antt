@@ -12,8 +12,12 @@ Rose before now = min (before + 1) (2 ^ 64 - 1) ≤ now
 abbrev pub Faults : Type 0
 Faults = ℕ × Option DiskCall
 
--- A call fails only where the count rose in it, and it is then the one that failed last. No other answer changes which one that is.
+-- no call failed in between: the count is as it was, and so is which one failed last
+abbrev pub NoneFailed : Faults → Faults → Type 0
+NoneFailed old new = (new.0 ≡ old.0) × (new.1 ≡ old.1)
+
+-- A call fails only where the count rose in it, and it is then the one that failed last. No other answer changes the count, or which one that is.
 abbrev pub HasCause : {T : Type 0} → DiskCall → Result T DiskError → Faults → Faults → Type 0
-HasCause call (Ok x) old new = (old.0 ≤ new.0) × (new.1 ≡ old.1)
-HasCause call (Err NoMemory) old new = (old.0 ≤ new.0) × (new.1 ≡ old.1)
+HasCause call (Ok x) old new = NoneFailed old new
+HasCause call (Err NoMemory) old new = NoneFailed old new
 HasCause call (Err Failed) old new = Rose old.0 new.0 × (old.0 ≤ new.0) × (new.1 ≡ Some call)

@@ -1,7 +1,7 @@
 -- A disk's error, as the fault of a layer above.
 use Rattle.std.specs.Prelude.{◌≡◌, ◌≤◌, Some, Result, Ok, Err}
 use Rattle.amq_model.specs.declared.refusal.DiskCall.{DiskCall}
-use Rattle.amq_io.specs.Cause.{Rose, Faults}
+use Rattle.amq_io.specs.Cause.{Rose, Faults, NoneFailed}
 use Rattle.amq_io.specs.declared.disk.DiskError.{DiskError}
 use Rattle.amq_io.specs.declared.disk.DiskError.TheVariants as error
 use Rattle.amq_io.specs.declared.faults.DiskFault.{DiskFault}
@@ -18,8 +18,8 @@ as_error (Ok x) = Ok x
 as_error (Err NoMemory) = Err error.NoMemory
 as_error (Err (Disk call)) = Err error.Failed
 
--- What a run of calls may answer: a fault only where the count rose in it, and then the call that failed last.
+-- What a run of calls may answer: a fault only where the count rose in it, and then the call that failed last. Behind any other answer none has failed.
 abbrev pub HasFault : {T : Type 0} → Result T DiskFault → Faults → Faults → Type 0
-HasFault (Ok x) old new = (old.0 ≤ new.0) × (new.1 ≡ old.1)
-HasFault (Err NoMemory) old new = (old.0 ≤ new.0) × (new.1 ≡ old.1)
+HasFault (Ok x) old new = NoneFailed old new
+HasFault (Err NoMemory) old new = NoneFailed old new
 HasFault (Err (Disk call)) old new = Rose old.0 new.0 × (old.0 ≤ new.0) × (new.1 ≡ Some call)

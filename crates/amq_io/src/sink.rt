@@ -1,4 +1,4 @@
-ghost use Rattle.std.specs.Prelude.{◌≡◌, ◌<◌, ◌≤◌, ℕ, List, Option, IfOk, OnErr, Err, length};
+ghost use Rattle.std.specs.Prelude.{◌≡◌, ◌<◌, ◌≤◌, ℕ, List, Option, IfOk, OnOk, OnErr, Err, length};
 ghost use Rattle.amq_io.specs.Cause.{Rose};
 ghost use Rattle.amq_io.specs.Streams.{Takes};
 
@@ -29,5 +29,7 @@ pub trait Sink {
         ensures next { IfOk result (λ n. Takes n bytes.now (taken self.old) (taken self.new)) }
         ensures nothing { OnErr result (taken self.new ≡ taken self.old) }
         ensures later { faults self.old ≤ faults self.new }
+        ensures sound { OnOk result (faults self.new ≡ faults self.old) }
+        ensures memory { result ≡ Err SinkError.NoMemory → faults self.new ≡ faults self.old }
         ensures failed { result ≡ Err SinkError.Failed → Rose (faults self.old) (faults self.new) };
 }

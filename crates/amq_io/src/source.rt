@@ -1,4 +1,4 @@
-ghost use Rattle.std.specs.Prelude.{◌≡◌, ◌≤◌, ℕ, List, Option, IfOk, OnErr, length, is_some};
+ghost use Rattle.std.specs.Prelude.{◌≡◌, ◌≤◌, ℕ, List, Option, IfOk, OnOk, OnErr, length, is_some};
 ghost use Rattle.amq_io.specs.Cause.{Rose};
 ghost use Rattle.amq_io.specs.Streams.{Gives, EndsOnlyAtTheEnd};
 
@@ -23,5 +23,6 @@ pub trait Source {
         ensures end { IfOk result (λ n. EndsOnlyAtTheEnd n into.old (left self.old)) }
         ensures told { is_some (left self.new) ≡ is_some (left self.old) }
         ensures later { faults self.old ≤ faults self.new }
+        ensures sound { OnOk result (faults self.new ≡ faults self.old) }
         ensures failed { OnErr result (Rose (faults self.old) (faults self.new)) };
 }

@@ -1,5 +1,5 @@
 -- What calls that only ask leave, and why they fail, one behind the other.
-use Rattle.std.proofs.Common.{◌≡◌, inl, inr, ◌≤◌, List, [], ◌∷◌, ◌++◌, Option, None, Some, refl, sym, ap, subst, ◌∙◌, append_assoc, arith}
+use Rattle.std.proofs.Common.{◌≡◌, inl, inr, List, [], ◌∷◌, ◌++◌, Option, None, Some, refl, sym, ap, subst, ◌∙◌, append_assoc, arith}
 use Rattle.std.specs.Prelude.{Result, Ok, Err, option_map, All}
 use Rattle.std.proofs.lemmas.List.Elements.{All-nil, All-append, All-cons, All-head, All-tail}
 use Rattle.amq_model.specs.declared.directory.DirFault.{DirFault}
@@ -8,7 +8,7 @@ use Rattle.amq_model.specs.Calls.{Call, Past, Event, listing, reading, fine, no_
 use Rattle.amq_model.specs.Leaves.{Leaves, Unchanged, IsAsking, HasAsked, OnlyAsks, IsAskingOrSyncing, AreNamesSettled, HasSettledNames, AllAgree, IsListedSame, Told}
 use Rattle.amq_model.proofs.Moments.{go_on}
 use Rattle.amq_model.proofs.Settling.{agree_on}
-use Rattle.amq_io.specs.Cause.{Faults}
+use Rattle.amq_io.specs.Cause.{Faults, NoneFailed}
 use Rattle.amq_io.specs.Notes.{Notes}
 use Rattle.amq_io.specs.declared.disk.DiskError.{DiskError}
 use Rattle.amq_io.specs.declared.disk.DiskError.TheVariants.{Failed, NoMemory}
@@ -122,7 +122,7 @@ told_both P Q R (Some p) both one two = both (content p.start p.calls) one two
 
 -- calls that answered Ok, and then others
 pub cause_on : {T : Type 0} (P : DirFault → Type 0) (Q : Type 0) (P' : DirFault → Type 0) (Q' : Type 0) (result : Result T LoadFault) (a b c : Faults)
-    → ((found : DirFault) → P found → P' found) → (Q → Q') → (a.0 ≤ b.0) × (b.1 ≡ a.1) → HasCauseBy P Q result b c → HasCauseBy P' Q' result a c
+    → ((found : DirFault) → P found → P' found) → (Q → Q') → NoneFailed a b → HasCauseBy P Q result b c → HasCauseBy P' Q' result a c
 cause_on P Q P' Q' (Ok x) a b c weaker other went cause = (omega (arith, went.0, cause.0), cause.1 ∙ went.1)
 cause_on P Q P' Q' (Err (f.Directory found)) a b c weaker other went cause = (weaker found cause.0, omega (arith, went.0, cause.1), cause.2 ∙ went.1)
 cause_on P Q P' Q' (Err f.NotBuilt) a b c weaker other went cause = (other cause.0, omega (arith, went.0, cause.1), cause.2 ∙ went.1)
@@ -131,7 +131,7 @@ cause_on P Q P' Q' (Err f.NoMemory) a b c weaker other went cause = (omega (arit
 
 -- the same of a fault that is handed on
 pub cause_err : (S T : Type 0) (P : DirFault → Type 0) (Q : Type 0) (P' : DirFault → Type 0) (Q' : Type 0) (e : LoadFault) (result : Result T LoadFault) (a b c : Faults)
-    → ((found : DirFault) → P found → P' found) → (Q → Q') → (a.0 ≤ b.0) × (b.1 ≡ a.1) → result ≡ Err e → HasCauseBy {T = S} P Q (Err e) b c → HasCauseBy P' Q' result a c
+    → ((found : DirFault) → P found → P' found) → (Q → Q') → NoneFailed a b → result ≡ Err e → HasCauseBy {T = S} P Q (Err e) b c → HasCauseBy P' Q' result a c
 cause_err S T P Q P' Q' e result a b c weaker other went is cause = subst (λ (r : Result T LoadFault). HasCauseBy P' Q' r a c) (sym is) (by e cause) where
   by : (e : LoadFault) → HasCauseBy {T = S} P Q (Err e) b c → HasCauseBy {T = T} P' Q' (Err e) a c
   by (f.Directory found) cause = (weaker found cause.0, omega (arith, went.0, cause.1), cause.2 ∙ went.1)
@@ -141,7 +141,7 @@ cause_err S T P Q P' Q' e result a b c weaker other went is cause = subst (λ (r
 
 -- a check's fault
 pub checked_cause : (S T : Type 0) (o : Option DirFault) (P : DirFault → Type 0) (e : LoadFault) (result : Result T LoadFault) (a b : Faults)
-    → ((found : DirFault) → o ≡ Some found → P found) → (a.0 ≤ b.0) × (b.1 ≡ a.1) → result ≡ Err e → IsChecked {T = S} o (Err e) → HasCauseBy P ⊥ result a b
+    → ((found : DirFault) → o ≡ Some found → P found) → NoneFailed a b → result ≡ Err e → IsChecked {T = S} o (Err e) → HasCauseBy P ⊥ result a b
 checked_cause S T o P e result a b says went is checked = subst (λ (r : Result T LoadFault). HasCauseBy P ⊥ r a b) (sym is) (by e checked) where
   by : (e : LoadFault) → IsChecked {T = S} o (Err e) → HasCauseBy {T = T} P ⊥ (Err e) a b
   by (f.Directory found) checked = (says found checked, went.0, went.1)

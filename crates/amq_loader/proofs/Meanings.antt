@@ -23,7 +23,7 @@ use Rattle.amq_scan.proofs.Sorted.{sorted_has}
 use Rattle.amq_scan.proofs.Entries.{file_has, there_entry, not_there}
 use Rattle.amq_io.specs.declared.disk.FileInfo.{FileInfo}
 use Rattle.amq_io.specs.Listed.{IsListed}
-use Rattle.amq_io.specs.Cause.{Faults}
+use Rattle.amq_io.specs.Cause.{Faults, NoneFailed}
 use Rattle.amq_loader.specs.declared.faults.LoadFault.{LoadFault}
 use Rattle.amq_loader.specs.declared.faults.LoadFault.TheVariants as f
 use Rattle.amq_loader.specs.declared.loaded.Loaded.{Loaded}
@@ -261,7 +261,7 @@ told_faulty wanted infos (Some p) found listed none is = is_faulty wanted infos 
 
 -- the fault of a call in this one, handed on
 pub load_fault_err : (S T : Type 0) (wanted : ℕ) (P : DirFault → Type 0) (Q : Type 0) (e : LoadFault) (result : Result T LoadFault) (past : Option Past) (a b c : Faults)
-    → ((found : DirFault) → P found → Told past (IsFaulty wanted found)) → (Q → Told past (IsThere control_name)) → (a.0 ≤ b.0) × (b.1 ≡ a.1) → result ≡ Err e → HasCauseBy {T = S} P Q (Err e) b c → HasLoadFault wanted result past a c
+    → ((found : DirFault) → P found → Told past (IsFaulty wanted found)) → (Q → Told past (IsThere control_name)) → NoneFailed a b → result ≡ Err e → HasCauseBy {T = S} P Q (Err e) b c → HasLoadFault wanted result past a c
 load_fault_err S T wanted P Q e result past a b c weaker other went is cause = subst (λ (r : Result T LoadFault). HasLoadFault wanted r past a c) (sym is) (by e cause) where
   by : (e : LoadFault) → HasCauseBy {T = S} P Q (Err e) b c → HasLoadFault {T = T} wanted (Err e) past a c
   by (f.Directory found) cause = (weaker found cause.0, omega (arith, went.0, cause.1), cause.2 ∙ went.1)

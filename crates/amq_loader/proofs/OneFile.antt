@@ -1,5 +1,5 @@
 -- What one file of a directory has.
-use Rattle.std.proofs.Common.{◌≡◌, ◌⊎◌, inl, inr, ℕ, ◌<◌, ◌≤◌, Bool, true, false, cond, leb, List, [], length, Option, None, Some, Ok, Err, refl, sym, ap, subst, ◌∙◌, arith}
+use Rattle.std.proofs.Common.{◌≡◌, ◌⊎◌, inl, inr, ℕ, ◌<◌, Bool, true, false, cond, leb, List, [], length, Option, None, Some, Ok, Err, refl, sym, ap, subst, ◌∙◌, arith}
 use Rattle.std.specs.Prelude.{Result, ◌&&◌, IfSome, IfOk, IsSome, ◌==◌}
 use Rattle.std.proofs.lemmas.Bool.{lt-ltb, le-leb}
 use Rattle.amq_model.specs.declared.directory.DirFault.{DirFault}
@@ -9,7 +9,7 @@ use Rattle.amq_model.specs.Names.{is_data}
 use Rattle.amq_model.specs.Calls.{Past, content}
 use Rattle.amq_model.specs.Leaves.{Leaves, Unchanged, Told, HasBytes, IsThere}
 use Rattle.amq_model.specs.Directory.{file_of}
-use Rattle.amq_io.specs.Cause.{Faults}
+use Rattle.amq_io.specs.Cause.{Faults, NoneFailed}
 use Rattle.amq_io.specs.declared.disk.FileInfo.{FileInfo}
 use Rattle.amq_loader.specs.declared.faults.LoadFault.{LoadFault}
 use Rattle.amq_loader.specs.declared.faults.LoadFault.TheVariants as f
@@ -76,7 +76,7 @@ told_here wanted info (Some p) bytes found listed has is =
     let read : bytes ≡ listed.file.bytes = subst (λ (o : Option File). IfSome o (λ f. bytes ≡ f.bytes)) listed.there has in
     subst (λ (o : Option File). IfSome o (λ f. IsFaultHere wanted info.name f.bytes found)) (sym listed.there) (subst (λ (b : List ℕ). IsFaultHere wanted info.name b found) read is)
 
-pub part_cause : {T : Type 0} (wanted : ℕ) (info : FileInfo) (past : Option Past) (bytes : List ℕ) (result : Result T LoadFault) (a b : Faults) → Told past (IsListedFile info) → Told past (HasBytes info.name bytes) → (a.0 ≤ b.0) × (b.1 ≡ a.1)
+pub part_cause : {T : Type 0} (wanted : ℕ) (info : FileInfo) (past : Option Past) (bytes : List ℕ) (result : Result T LoadFault) (a b : Faults) → Told past (IsListedFile info) → Told past (HasBytes info.name bytes) → NoneFailed a b
     → HasFaultHere wanted info.name bytes result → HasCauseBy (λ found. Told past (IsFaultIn wanted info.name found)) ⊥ result a b
 part_cause wanted info past bytes (Ok x) a b listed has went is = went
 part_cause wanted info past bytes (Err (f.Directory found)) a b listed has went is = (told_here wanted info past bytes found listed has is, went.0, went.1)

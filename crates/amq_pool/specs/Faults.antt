@@ -1,6 +1,6 @@
 -- Why a pool gives no file.
 use Rattle.std.specs.Prelude.{◌≡◌, ℕ, ◌-◌, ◌^◌, ◌≤◌, Some, Result, Ok, Err}
-use Rattle.amq_io.specs.Cause.{Rose, Faults}
+use Rattle.amq_io.specs.Cause.{Rose, Faults, NoneFailed}
 use Rattle.amq_io.specs.declared.faults.DiskFault.{DiskFault}
 use Rattle.amq_io.specs.declared.faults.DiskFault.TheVariants as f
 use Rattle.amq_pool.specs.declared.faults.PoolFault.{PoolFault}
@@ -25,9 +25,9 @@ OnPoolMemory (Err (Disk call)) P = Unit {0}
 OnPoolMemory (Err NoMemory) P = P
 
 -- What a pool may answer whose greatest number is this: that the numbers are spent only where they are, and a failed
--- call only where the count rose in it, and then the call that failed last.
+-- call only where the count rose in it, and then the call that failed last. Behind any other answer none has failed.
 abbrev pub HasPoolFault : {T : Type 0} → ℕ → Result T PoolFault → Faults → Faults → Type 0
-HasPoolFault greatest (Ok x) old new = (old.0 ≤ new.0) × (new.1 ≡ old.1)
+HasPoolFault greatest (Ok x) old new = NoneFailed old new
 HasPoolFault greatest (Err (FileIdsSpent highest)) old new = (highest ≡ greatest) × (2 ^ 31 - 1 ≤ greatest) × (new ≡ old)
 HasPoolFault greatest (Err (Disk call)) old new = Rose old.0 new.0 × (old.0 ≤ new.0) × (new.1 ≡ Some call)
-HasPoolFault greatest (Err NoMemory) old new = (old.0 ≤ new.0) × (new.1 ≡ old.1)
+HasPoolFault greatest (Err NoMemory) old new = NoneFailed old new

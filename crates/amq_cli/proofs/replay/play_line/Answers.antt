@@ -5,6 +5,8 @@ use Rattle.amq_cli.specs.Replay.{is_for_memory}
 use Rattle.amq_cli.specs.Labelled.{number_in}
 use Rattle.amq_cli.specs.Outcomes.{answer_in}
 use Rattle.amq_cli.proofs.Ending.{line_played, line_unwritten, line_refused, refused_owed, unwritten_owed}
+use Rattle.amq_cli.specs.declared.replay.Outcome.{Outcome}
+use Rattle.amq_cli.proofs.Causes.{cause_short}
 use Rattle.amq_cli.proofs.replay.play_line.Goals as goal
 
 pub returns-in-Ok-push_outcome-clause-played : goal.returns-in-Ok-push_outcome-clause-played
@@ -39,3 +41,6 @@ returns-in-Ok-push_answer-clause-owed g c done was =
 pub returns-in-Err-push_answer-clause-owed : goal.returns-in-Err-push_answer-clause-owed
 returns-in-Err-push_answer-clause-owed g c done was =
     refused_owed c.args.engine.now.config.buffer_timeout done c.args.line (number_in c.args.labels.now) c.args.number.now c.args.engine.now c.answer_line.new.engine c.args.text.now.items was c.in-Err.ensures.kept
+
+pub returns-in-Err-push_answer-clause-cause : goal.returns-in-Err-push_answer-clause-cause
+returns-in-Err-push_answer-clause-cause g c = cause_short Outcome (Unit {0}) c.in-Err.refusal (g.D.Disk.faults c.args.engine.now.disk) (g.D.Disk.faults c.answer_line.new.engine.disk) c.in-Err.ensures.cause

@@ -14,6 +14,7 @@ use Rattle.amq_engine.proofs.GoingOn.{goes_still, goes_through}
 use Rattle.amq_cli.specs.Offline.{lists_of}
 use Rattle.amq_cli.proofs.Beginning.{first_still, first_through}
 use Rattle.amq_cli.proofs.Ending.{one_taken, ended_more, last_of_all, same_labels, owed_front, all_owed}
+use Rattle.amq_cli.proofs.Causes.{cause_behind}
 use Rattle.amq_cli.proofs.replay.replay.Goals as goal
 
 pub loop-line-init : goal.loop-line-init
@@ -27,7 +28,7 @@ loop-line-init g c =
       unclosed = c.requires.open;
       config = refl;
       base = refl;
-      later = search rules;
+      faults = (refl, refl);
       goes = goes_still (g.D.Disk.past e.disk);
       first = first_still (lists_of e.chronicle);
     }
@@ -56,7 +57,7 @@ loop-line-preserved g c =
       unclosed = search rules;
       config = search rules;
       base = search rules;
-      later = search rules;
+      faults = (omega (arith, was.faults.0, c.in_ok-play_line.ensures.cause.0), c.in_ok-play_line.ensures.cause.1 ∙ was.faults.1);
       goes = goes_through (g.D.Disk.past c.args.engine.now.disk) (g.D.Disk.past c.loop-line.engine.disk) (g.D.Disk.past c.play_line.new.engine.disk) was.goes c.play_line.ensures.goes_on;
       first = first_through (lists_of c.args.engine.now.chronicle) (lists_of c.loop-line.engine.chronicle) (lists_of c.play_line.new.engine.chronicle) was.first c.play_line.ensures.first;
     }
@@ -77,6 +78,12 @@ returns-in_err-play_line-clause-ended g c =
     (subst (λ t. HasEnded t (played.0 ++ line ∷ []) steps receipts c.play_line.new.text.items (refusal_line c.in_err-play_line.field-0.0) (is_for_memory c.in_err-play_line.field-0.0)) timeout ended)) in
     let err : c.from_residual.result ≡ Err c.in_err-play_line.field-0.0 = search rules in
     subst (λ r. IfErr r (λ refusal. HasEnded c.args.engine.now.config.buffer_timeout c.args.lines.items steps receipts c.play_line.new.text.items (refusal_line refusal) (is_for_memory refusal))) (sym err) here
+
+pub returns-in_err-play_line-clause-cause : goal.returns-in_err-play_line-clause-cause
+returns-in_err-play_line-clause-cause g c =
+    let faults = g.D.Disk.faults in
+    let err : c.from_residual.result ≡ Err c.in_err-play_line.field-0.0 = search rules in
+    cause_behind (Unit {0}) c.in_err-play_line.field-0.0 c.from_residual.result (faults c.args.engine.now.disk) (faults c.loop-line.engine.disk) (faults c.play_line.new.engine.disk) c.loop-line.invariant.faults err c.in_err-play_line.ensures.cause
 
 pub returns-in_err-play_line-clause-goes_on : goal.returns-in_err-play_line-clause-goes_on
 returns-in_err-play_line-clause-goes_on g c = goes_through (g.D.Disk.past c.args.engine.now.disk) (g.D.Disk.past c.loop-line.engine.disk) (g.D.Disk.past c.play_line.new.engine.disk) c.loop-line.invariant.goes c.play_line.ensures.goes_on

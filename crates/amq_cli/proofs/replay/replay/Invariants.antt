@@ -1,6 +1,7 @@
 use Rattle.std.proofs.Common.{◌≡◌, ◌+◌, ◌≤◌, ◌++◌, List, length, None}
 use Rattle.std.specs.Prelude.{All, IsTrue, reverse}
 use Rattle.amq_model.specs.declared.script.Line.{Line}
+use Rattle.amq_io.specs.Cause.{NoneFailed}
 use Rattle.amq_engine.specs.Receipts.{GoesOn}
 use Rattle.amq_cli.specs.Offline.{lists_of}
 use Rattle.amq_cli.specs.Replay.{is_built}
@@ -18,7 +19,7 @@ invariant-loop-line g l =
       unclosed : l.engine.closed ≡ None;
       config : l.engine.config ≡ l.fn.engine.config;
       base : l.engine.chronicle.base ≡ l.fn.engine.chronicle.base;
-      later : (g.D.Disk.faults l.fn.engine.disk).0 ≤ (g.D.Disk.faults l.engine.disk).0;
+      faults : NoneFailed (g.D.Disk.faults l.fn.engine.disk) (g.D.Disk.faults l.engine.disk);
       goes : GoesOn (g.D.Disk.past l.fn.engine.disk) (g.D.Disk.past l.engine.disk);
       first : KeepsFirst (lists_of l.fn.engine.chronicle) (lists_of l.engine.chronicle);
     }

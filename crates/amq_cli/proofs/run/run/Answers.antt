@@ -33,7 +33,7 @@ returns-in-Ok-clause-text g c =
     let faults = g.D.Disk.faults in
     let has = c.run_on.ensures.text in
     subst (λ (k : Config). HasText k.buffer_timeout status (IsLoadedState (g.D.Disk.past c.run_on.result.1) k.user_version kept.base kept.steps.items) lines (faults c.args.disk) (faults c.run_on.result.1) kept.steps.items kept.receipts.items c.run_on.new.text.items) c.in-Ok.ensures.opened.0
-    (earlier_text c.in-Ok.engine.config.buffer_timeout status _ lines (faults c.args.disk) (faults c.in-Ok.engine.disk) (faults c.run_on.result.1) kept.steps.items kept.receipts.items c.run_on.new.text.items c.in-Ok.ensures.later has)
+    (earlier_text c.in-Ok.engine.config.buffer_timeout status _ lines (faults c.args.disk) (faults c.in-Ok.engine.disk) (faults c.run_on.result.1) kept.steps.items kept.receipts.items c.run_on.new.text.items (omega (arith, c.in-Ok.ensures.faults.0)) has)
 
 pub returns-in-Err-clause-text : goal.returns-in-Err-clause-text
 returns-in-Err-clause-text g c =

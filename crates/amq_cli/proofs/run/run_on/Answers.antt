@@ -13,6 +13,7 @@ use Rattle.amq_engine.proofs.GoingOn.{goes_by, goes_through}
 use Rattle.amq_engine.proofs.Noting.{both_true}
 use Rattle.amq_cli.proofs.Answering.{no_step}
 use Rattle.amq_cli.proofs.Ending.{owed_more}
+use Rattle.amq_cli.proofs.Causes.{cause_of_call}
 use Rattle.amq_cli.proofs.Beginning.{first_through, first_receipted}
 use Rattle.amq_cli.proofs.Recovering.{safe_still, last_of_all}
 use Rattle.amq_cli.proofs.Loading.{has_run_on, never_done, closed_so}
@@ -123,7 +124,7 @@ returns-clause-cause g c =
     elim c.match-played.branch [
       | in-Ok+in-Ok-closed w ↦ subst (λ s. HasDiskCause s was now) (sym w.status-is) (subst (λ d. HasDiskCause w.add_report.result was (faults d)) (sym w.disk-is) (between_cause w.add_report.result was closed (faults w.add_report.new.disk) on w.add_report.ensures.cause))
       | in-Ok+in-Err-closed w ↦ subst (λ s. HasDiskCause s was now) (sym (w.status-is ∙ w.status_of_refusal.ensures)) (subst (λ d. HasDiskCause (status_of w.in-Err-closed.refusal) was (faults d)) (sym w.disk-is)
-          (refusal_cause ℕ w.in-Err-closed.refusal was played closed closed c.replay-played.ensures.later (omega arith) (subst (λ r. HasCause r played closed) w.in-Err-closed.is c.close-disk.ensures.cause)))
+          (refusal_cause ℕ w.in-Err-closed.refusal was played closed closed c.replay-played.ensures.later (omega arith) (cause_of_call ℕ ℕ w.in-Err-closed.refusal played closed (subst (λ r. HasCause r played closed) w.in-Err-closed.is c.close-disk.ensures.cause))))
       | in-Err w ↦ subst (λ s. HasDiskCause s was now) (sym (w.status-is ∙ w.status_of_refusal-status.ensures)) (subst (λ d. HasDiskCause (status_of w.in-Err.refusal) was (faults d)) (sym w.disk-is)
           (refusal_cause (Unit {0}) w.in-Err.refusal was was played closed (omega arith) c.close-disk.ensures.later w.in-Err.ensures.cause))
     ]

@@ -4,6 +4,7 @@ use Rattle.amq_tx.specs.State.{TxState}
 use Rattle.amq_engine.specs.declared.tail.Tail.{Tail}
 use Rattle.amq_engine.specs.Lists.{Lists}
 use Rattle.amq_model.specs.Leaves.{Told}
+use Rattle.amq_io.specs.Cause.{NoneFailed}
 use Rattle.amq_loader.specs.Loads.{IsTidy}
 use Rattle.amq_engine.specs.Receipts.{GoesOn}
 use Rattle.amq_engine.specs.Engine.{Stage, IsValid, with_files}
@@ -17,7 +18,7 @@ invariant-loop g l = record {
   valid : (stage : Stage) (lists : Option Lists) (room : ℕ) (config : Config) (table : TxState) (tail : Tail)
       → IsValid stage (g.D.Disk.past l.fn.disk) (g.D.Disk.moment l.fn.disk) lists room config table l.fn.pool tail
       → IsValid stage (g.D.Disk.past l.disk) (g.D.Disk.moment l.disk) lists room config table l.pool tail;
-  faults : ((g.D.Disk.faults l.fn.disk).0 ≤ (g.D.Disk.faults l.disk).0) × ((g.D.Disk.faults l.disk).1 ≡ (g.D.Disk.faults l.fn.disk).1);
+  faults : NoneFailed (g.D.Disk.faults l.fn.disk) (g.D.Disk.faults l.disk);
   later : g.D.Disk.moment l.fn.disk ≤ g.D.Disk.moment l.disk;
   tidy : Told (g.D.Disk.past l.fn.disk) IsTidy → Told (g.D.Disk.past l.disk) IsTidy;
   goes : GoesOn (g.D.Disk.past l.fn.disk) (g.D.Disk.past l.disk);

@@ -135,7 +135,7 @@ returns-in-Err-clause-cause g c =
     let faults = g.D.Disk.faults in
     let lists = g.C.Chronicle.lists c.note.new.chronicle in
     subst (λ (o : OpenFault). HasOpenCause c.args.config.now o lists (past c.args.disk.now) (past c.renew.new.disk) (faults c.args.disk.now) (faults c.renew.new.disk)) (sym c.fault_of.ensures)
-    (behind_fault (PoolOf × PoolFile) c.in-Err.fault c.args.config.now lists (past c.args.disk.now) (past c.renew.new.disk) (faults c.args.disk.now) (faults c.find.new.disk) (faults c.renew.new.disk) c.find.ensures.later c.in_ok-loaded.ensures.faults c.in-Err.ensures.cause)
+    (behind_fault (PoolOf × PoolFile) c.in-Err.fault c.args.config.now lists (past c.args.disk.now) (past c.renew.new.disk) (faults c.args.disk.now) (faults c.find.new.disk) (faults c.renew.new.disk) (c.in_ok-loaded.ensures.faults.0, c.in_ok-loaded.ensures.faults.1) c.in-Err.ensures.cause)
 
 pub returns-in-Err-clause-unstepped : goal.returns-in-Err-clause-unstepped
 returns-in-Err-clause-unstepped g c =

@@ -10,7 +10,7 @@ pub returns-then-loaded-ge-MOST_NUMBER-clause-crash : goal.returns-then-loaded-g
 returns-then-loaded-ge-MOST_NUMBER-clause-crash g c = asks_sync (g.D.Disk.past c.args.disk.now) (g.D.Disk.past c.load.new.disk) c.load.ensures.only_asks
 
 pub returns-then-loaded-ge-MOST_NUMBER-clause-cause : goal.returns-then-loaded-ge-MOST_NUMBER-clause-cause
-returns-then-loaded-ge-MOST_NUMBER-clause-cause g c lists blank = (c.in-Ok.ensures.cause.1, inl (search rules, c.load.ensures.asks, blank, told_some_numbers c.args.config.now.user_version c.in-Ok.loaded (g.D.Disk.past c.args.disk.now) c.in-Ok.ensures.told))
+returns-then-loaded-ge-MOST_NUMBER-clause-cause g c lists blank = ((c.in-Ok.ensures.cause.0, c.in-Ok.ensures.cause.1), inl (search rules, c.load.ensures.asks, blank, told_some_numbers c.args.config.now.user_version c.in-Ok.loaded (g.D.Disk.past c.args.disk.now) c.in-Ok.ensures.told))
 
 pub sync_files-requires-clause-there : goal.sync_files-requires-clause-there
 sync_files-requires-clause-there g c = told_there c.args.config.now.user_version c.in-Ok.loaded (g.D.Disk.past c.args.disk.now) (g.D.Disk.past c.load.new.disk) c.load.ensures.asks c.in-Ok.ensures.told

@@ -4,6 +4,7 @@ use Rattle.amq_model.specs.Answers.{history_of}
 use Rattle.amq_model.specs.Legal.{rolled_back}
 use Rattle.amq_tx.specs.Tables.{state_of}
 use Rattle.amq_model.specs.Leaves.{Told}
+use Rattle.amq_io.specs.Cause.{NoneFailed}
 use Rattle.amq_loader.specs.Loads.{IsTidy}
 use Rattle.amq_engine.specs.declared.chronicle.Receipted.{Receipted}
 use Rattle.amq_engine.specs.Receipts.{GoesOn, StartsWith}
@@ -23,7 +24,7 @@ invariant-loop-done g l = record {
   base : option_map (λ k. k.base) (g.C.Chronicle.lists l.chronicle) ≡ option_map (λ k. k.base) (g.C.Chronicle.lists l.fn.chronicle);
   ends : IfSome (g.C.Chronicle.lists l.chronicle) (λ k. EndsIn l.fn.tail.file.id (history_of k.steps) l.tail.file.id (end_of_tail l.tail));
   placed : IfSome (g.C.Chronicle.lists l.chronicle) (λ k. ArePlaced l.fn.config l.fn.tail.file.id l.fn.txs l.done k.steps);
-  faults : ((g.D.Disk.faults l.fn.disk).0 ≤ (g.D.Disk.faults l.disk).0) × ((g.D.Disk.faults l.disk).1 ≡ (g.D.Disk.faults l.fn.disk).1);
+  faults : NoneFailed (g.D.Disk.faults l.fn.disk) (g.D.Disk.faults l.disk);
   later : g.D.Disk.moment l.fn.disk ≤ g.D.Disk.moment l.disk;
   tidy : Told (g.D.Disk.past l.fn.disk) IsTidy → Told (g.D.Disk.past l.disk) IsTidy;
   first : (r : Receipted) → IfSome (g.C.Chronicle.lists l.fn.chronicle) (StartsWith r) → IfSome (g.C.Chronicle.lists l.chronicle) (StartsWith r);

@@ -54,7 +54,7 @@ returns-then-is_some-clause-cause g c =
     let some : is_some (spent (passes e.config.now.file_size (end_of_tail e.tail.now) (Some 18)) e.pool.now.highest (ids_of e.pool.now.prepared)) ≡ true =
     sym (ap is_some (c.number_refusal.ensures.first ∙ ap (λ (m : Bool). spent m e.pool.now.highest (ids_of e.pool.now.prepared)) moves)) ∙ sym c.is_some.ensures ∙ c.if-is_some.true in
     let so = roll_spent (g.D.Disk.past e.disk.now) (g.D.Disk.moment e.disk.now) (lists e.chronicle.now) (g.C.Chronicle.receipt_room e.chronicle.now) e.config.now (state_of e.table.now) e.pool.now e.tail.now c.requires.valid.0 e.done e.tx c.requires.valid.2 c.requires.valid.1 some c.requires.begun.1 c.requires.ended in
-    (c.highest.ensures.value ∙ so.0, subst (λ (l : Option Lists). IfSome l (NeedsFile e.config.now)) (sym c.make_room.ensures.lists) so.1, refl)
+    (c.highest.ensures.value ∙ so.0, subst (λ (l : Option Lists). IfSome l (NeedsFile e.config.now)) (sym c.make_room.ensures.lists) so.1, (refl, refl))
 
 pub ready-requires-clause-there : goal.ready-requires-clause-there
 ready-requires-clause-there g c =

@@ -168,7 +168,7 @@ returns-in_err-complete-clause-cause g c =
     let fault = c.in_err-complete.field-0.0 in
     let is : c.from_residual-in_err-complete.result ≡ Err fault = search rules in
     subst (λ r. IfErr r (λ fault. HasOpenCause config fault (lists c.complete.new.chronicle) (past c.args.disk.now) (past c.complete.new.disk) (faults c.args.disk.now) (faults c.complete.new.disk))) (sym is)
-    (roll_cause fault config (lists c.complete.new.chronicle) (past c.args.disk.now) (past c.complete.new.disk) (faults c.args.disk.now) (faults c.begin.new.disk) (faults c.complete.new.disk) c.begin.ensures.later c.in_ok-table.ensures.faults based c.in_err-complete.ensures.cause)
+    (roll_cause fault config (lists c.complete.new.chronicle) (past c.args.disk.now) (past c.complete.new.disk) (faults c.args.disk.now) (faults c.begin.new.disk) (faults c.complete.new.disk) c.in_ok-table.ensures.faults based c.in_err-complete.ensures.cause)
 
 pub returns-in_err-complete-clause-failed_spent : goal.returns-in_err-complete-clause-failed_spent
 returns-in_err-complete-clause-failed_spent g c =

@@ -1,7 +1,8 @@
-use Rattle.std.proofs.Common.{◌≡◌, ◌≤◌, map, take}
+use Rattle.std.proofs.Common.{◌≤◌, map, take}
 use Rattle.amq_model.specs.Leaves.{Leaves, Unchanged, OnlyAsks}
 use Rattle.amq_model.specs.LoadCalls.{Makes}
 use Rattle.amq_loader.specs.Asked.{sizes}
+use Rattle.amq_io.specs.Cause.{NoneFailed}
 use Rattle.amq_loader.specs.Parts.{AreFound}
 use Rattle.amq_loader.proofs.Asking.{AreReads}
 use Rattle.amq_loader.proofs.loading.read_files.Given as goal
@@ -14,5 +15,5 @@ invariant-loop-info g l = record {
   asks : OnlyAsks (g.D.Disk.past l.fn.disk) (g.D.Disk.past l.disk);
   only_asks : Leaves Unchanged Unchanged (g.D.Disk.past l.fn.disk) (g.D.Disk.past l.disk);
   later : g.D.Disk.moment l.fn.disk ≤ g.D.Disk.moment l.disk;
-  faults : ((g.D.Disk.faults l.fn.disk).0 ≤ (g.D.Disk.faults l.disk).0) × ((g.D.Disk.faults l.disk).1 ≡ (g.D.Disk.faults l.fn.disk).1);
+  faults : NoneFailed (g.D.Disk.faults l.fn.disk) (g.D.Disk.faults l.disk);
 }

@@ -2,6 +2,7 @@ use Rattle.std.proofs.Common.{◌≡◌, ◌≤◌, map, take}
 use Rattle.amq_model.specs.Calls.{removing}
 use Rattle.amq_model.specs.LoadCalls.{AreCalls, Makes}
 use Rattle.amq_model.specs.Leaves.{Leaves}
+use Rattle.amq_io.specs.Cause.{NoneFailed}
 use Rattle.amq_loader.specs.Bases.{Clears, Cleared}
 use Rattle.amq_loader.proofs.settling.settle_directory.Given as goal
 
@@ -11,5 +12,5 @@ invariant-loop-name g l = record {
   so_far : Leaves (Clears l.loaded.leftovers) (Cleared (take l.name-index l.loaded.leftovers)) (g.D.Disk.past l.fn.disk) (g.D.Disk.past l.disk);
   calls : Makes (λ s. AreCalls (map removing (take l.name-index l.loaded.leftovers))) (g.D.Disk.past l.fn.disk) (g.D.Disk.past l.disk);
   later : g.D.Disk.moment l.fn.disk ≤ g.D.Disk.moment l.disk;
-  faults : ((g.D.Disk.faults l.fn.disk).0 ≤ (g.D.Disk.faults l.disk).0) × ((g.D.Disk.faults l.disk).1 ≡ (g.D.Disk.faults l.fn.disk).1);
+  faults : NoneFailed (g.D.Disk.faults l.fn.disk) (g.D.Disk.faults l.disk);
 }

@@ -2,6 +2,7 @@ use Rattle.std.proofs.Common.{◌≡◌, ◌≤◌, map, take}
 use Rattle.amq_model.specs.Leaves.{Leaves, Syncs, HasSettledNames, AllAgree, IsListedSame}
 use Rattle.amq_model.specs.LoadCalls.{AreCalls, Makes}
 use Rattle.amq_loader.proofs.Syncing.{AllSettled, sync_of}
+use Rattle.amq_io.specs.Cause.{NoneFailed}
 use Rattle.amq_loader.proofs.settling.sync_files.Given as goal
 
 -- the first ones are settled
@@ -13,5 +14,5 @@ invariant-loop-file g l = record {
   settled : AllSettled (g.D.Disk.past l.disk) (take l.file-index l.loaded.files);
   listed : AllAgree (g.D.Disk.past l.fn.disk) IsListedSame → AllAgree (g.D.Disk.past l.disk) IsListedSame;
   later : g.D.Disk.moment l.fn.disk ≤ g.D.Disk.moment l.disk;
-  faults : ((g.D.Disk.faults l.fn.disk).0 ≤ (g.D.Disk.faults l.disk).0) × ((g.D.Disk.faults l.disk).1 ≡ (g.D.Disk.faults l.fn.disk).1);
+  faults : NoneFailed (g.D.Disk.faults l.fn.disk) (g.D.Disk.faults l.disk);
 }
