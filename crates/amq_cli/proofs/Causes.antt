@@ -1,10 +1,13 @@
 -- Why a replay ended, behind lines that were answered.
-use Rattle.std.proofs.Common.{◌≡◌, inl, inr, Result, Err, sym, subst, ◌∙◌, arith}
+use Rattle.std.proofs.Common.{◌≡◌, ◌⊎◌, inl, inr, Result, Err, sym, subst, ◌∙◌, arith}
 use Rattle.amq_model.specs.declared.refusal.Refusal.{Refusal}
 use Rattle.amq_model.specs.declared.refusal.Refusal.TheVariants as r
 use Rattle.amq_io.specs.Cause.{Faults, NoneFailed}
 use Rattle.amq_engine.specs.Engine.{HasCause}
+use Rattle.amq_cli.specs.Counts.{HasDiskCount, HasLoadCount}
 use Rattle.amq_cli.specs.Ended.{HasReplayCause}
+use Rattle.amq_cli.specs.declared.status.Status.{Status}
+use Rattle.amq_cli.specs.declared.status.Status.TheVariants as s
 
 pub none_further : (a b c : Faults) → NoneFailed a b → NoneFailed b c → NoneFailed a c
 none_further a b c one two = (omega (arith, one.0, two.0), two.1 ∙ one.1)
@@ -56,3 +59,22 @@ cause_of_call S T (r.NoRecord id) a b cause = cause
 cause_of_call S T (r.TxNumbersSpent highest) a b cause = cause
 cause_of_call S T (r.Compacting phase) a b cause = cause
 cause_of_call S T (r.FileIdsSpent highest) a b cause = cause
+
+-- ---- which counts are as they were
+
+-- behind a script and a closing in which no call failed
+pub count_behind : (status : Status) (a b c d : Faults) → NoneFailed a b → NoneFailed b c → HasLoadCount status c d → HasDiskCount status a d
+count_behind s.DiskFault a b c d one two three = tt
+count_behind s.NoMemory a b c d one two three = tt
+count_behind s.Ok a b c d one two three = none_further a b d one (none_further b c d two three)
+count_behind s.SourceFault a b c d one two three = none_further a b d one (none_further b c d two three)
+count_behind s.SinkFault a b c d one two three = none_further a b d one (none_further b c d two three)
+count_behind (s.Directory fault) a b c d one two three = none_further a b d one (none_further b c d two three)
+count_behind (s.FileIdsSpent highest) a b c d one two three = none_further a b d one (none_further b c d two three)
+count_behind (s.InputTooLong limit) a b c d one two three = none_further a b d one (none_further b c d two three)
+count_behind (s.NotBuilt part) a b c d one two three = none_further a b d one (none_further b c d two three)
+
+-- behind a refusal
+pub count_refused : (status : Status) (a b : Faults) → (status ≡ s.DiskFault) ⊎ (status ≡ s.NoMemory) → HasDiskCount status a b
+count_refused status a b (inl is) = subst (λ (x : Status). HasDiskCount x a b) (sym is) tt
+count_refused status a b (inr is) = subst (λ (x : Status). HasDiskCount x a b) (sym is) tt

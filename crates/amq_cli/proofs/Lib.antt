@@ -15,3 +15,4 @@ pub mod Beginning
 pub mod Digits
 pub mod Causes
 pub mod EndedExamples
+pub mod CountsExamples

@@ -9,6 +9,11 @@ abbrev pub IsReadWhole : List ℕ → Option (List ℕ) → Option (List ℕ) �
 IsReadWhole bytes None new = new ≡ None
 IsReadWhole bytes (Some old) new = (bytes ≡ old) × (new ≡ Some [])
 
+-- the count of faults rises only where a read failed
+abbrev pub HasInputCount : InputFault → ℕ → ℕ → Type 0
+HasInputCount f.Failed old new = Unit {0}
+HasInputCount _ old new = new ≡ old
+
 -- why an input wasn't read: the count of faults rose, or more bytes than the limit were left
 abbrev pub HasInputCause : ℕ → InputFault → Option (List ℕ) → ℕ → ℕ → Type 0
 HasInputCause limit f.Failed left old new = Rose old new

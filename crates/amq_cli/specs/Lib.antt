@@ -1,5 +1,6 @@
 pub mod Words
 pub mod Statuses
+pub mod Counts
 pub mod Ended
 pub mod Input
 pub mod Output

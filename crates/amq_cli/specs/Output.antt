@@ -10,7 +10,7 @@ pub record IsPartWritten (bytes : List ℕ) (old new : Option (List ℕ)) : Type
   pub within : count ≤ length bytes
   pub is : new ≡ option_map (λ text. text ++ take count bytes) old
 
--- why a sink took nothing more
+-- why a sink took nothing more: a write failed, or there was no memory and none has failed
 abbrev pub HasOutputCause : SinkError → ℕ → ℕ → Type 0
 HasOutputCause e.Failed old new = Rose old new
-HasOutputCause e.NoMemory old new = Unit {0}
+HasOutputCause e.NoMemory old new = new ≡ old

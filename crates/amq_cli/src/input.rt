@@ -1,7 +1,7 @@
 //! Reading a source to its end.
 ghost use Rattle.std.specs.Prelude.{◌≡◌, ◌+◌, ◌<◌, ◌≤◌, [], length, IfOk, IfErr, IfSome, OnOk, is_some};
 ghost use Rattle.amq_io.specs.Cause.{Rose};
-ghost use Rattle.amq_cli.specs.Input.{HasInputCause, IsReadWhole};
+ghost use Rattle.amq_cli.specs.Input.{HasInputCause, HasInputCount, IsReadWhole};
 
 use amq_io::Source;
 use std::alloc::Global;
@@ -25,7 +25,8 @@ pub fn read_whole<S: Source>(alloc: Global, source: &mut S) -> Result<Vec<u8>, I
     ensures whole { IfOk result (λ bytes. IsReadWhole bytes.items (S.left source.old) (S.left source.new)) }
     ensures short { IfOk result (λ bytes. length bytes.items ≤ INPUT_LIMIT) }
     ensures cause { IfErr result (λ fault. HasInputCause INPUT_LIMIT fault (S.left source.old) (S.faults source.old) (S.faults source.new)) }
-    ensures later { S.faults source.old ≤ S.faults source.new }
+    ensures count { IfErr result (λ fault. HasInputCount fault (S.faults source.old) (S.faults source.new)) }
+    ensures sound { OnOk result (S.faults source.new ≡ S.faults source.old) }
 {
     let mut bytes = Vec::new(alloc);
     let mut piece = [0; PIECE];

@@ -3,6 +3,7 @@ ghost use Rattle.std.specs.Prelude.{◌≡◌, ◌≤◌, true};
 ghost use Rattle.amq_model.specs.Leaves.{Leaves, OnlyAsks, Unchanged};
 ghost use Rattle.amq_model.specs.LoadCalls.{Makes};
 ghost use Rattle.amq_cli.specs.Offline.{HasPrintCalls, HasPrintCause, IsPrinted, is_unwritten};
+ghost use Rattle.amq_cli.specs.Counts.{HasPrintCounts};
 ghost use Rattle.amq_cli.specs.Statuses.{status_of_load};
 
 use crate::report::write_report;
@@ -20,6 +21,7 @@ pub fn print<D: Disk, K: Sink>(
 ) -> Status
     ensures printed { IsPrinted result user_version (D.past disk.old) (K.taken sink.old) (K.taken sink.new) }
     ensures cause { HasPrintCause result (K.faults sink.old) (K.faults sink.new) (D.faults disk.old) (D.faults disk.new) }
+    ensures counts { HasPrintCounts result (K.faults sink.old) (K.faults sink.new) (D.faults disk.old) (D.faults disk.new) }
     ensures unwritten { is_unwritten result ≡ true → sink.new ≡ sink.old }
     ensures unread { result ≡ Status.DiskFault → sink.new ≡ sink.old }
     ensures asks { OnlyAsks (D.past disk.old) (D.past disk.new) }

@@ -7,6 +7,7 @@ ghost use Rattle.amq_io.specs.Cause.{Rose};
 ghost use Rattle.amq_engine.specs.Engine.{IsBlank, AreSpentAtLast};
 ghost use Rattle.amq_engine.specs.Opening.{HasBase};
 ghost use Rattle.amq_engine.specs.Receipts.{IsCrashSafe, IsLastCount, BeginsBySyncs};
+ghost use Rattle.amq_cli.specs.Counts.{HasSourceCount, HasSinkCount, HasDiskCount, HasPrintCounts};
 ghost use Rattle.amq_cli.specs.Words.{asked, prints, reads_script};
 ghost use Rattle.amq_cli.specs.Offline.{lists_of, HasCause, HasLegal, HasRolledBack, HasPlayCause, IsRun, IsPlayed, IsTextOf, IsOutput, IsPrint, IsScript, IsLoadedState, is_before_opening, is_past_script, is_unwritten, defaults, IsWritten};
 ghost use Rattle.amq_cli.specs.Owed.{HasOwed, IsOwedRun};
@@ -57,6 +58,10 @@ pub fn offline<D: Disk, S: Source, K: Sink>(
     ensures silent { prints (asked words.now) ≡ false → result.2.receipts.items ≡ [] → K.taken sink.new ≡ K.taken sink.old }
     ensures unprinted { asked words.now ≡ Some Task.Print → result.0 ≡ Status.DiskFault → sink.new ≡ sink.old }
     ensures legal { HasLegal result.0 defaults result.2.base result.2.steps.items (K.taken sink.new ≡ K.taken sink.old) }
+    ensures source_count { HasSourceCount result.0 (S.faults source.old) (S.faults source.new) }
+    ensures sink_count { HasSinkCount result.0 (K.faults sink.old) (K.faults sink.new) }
+    ensures disk_count { HasDiskCount result.0 (D.faults disk) (D.faults result.1) }
+    ensures print_counts { asked words.now ≡ Some Task.Print → HasPrintCounts result.0 (K.faults sink.old) (K.faults sink.new) (D.faults disk) (D.faults result.1) }
     ensures later { (D.faults disk).0 ≤ (D.faults result.1).0 }
 
     // The headline, and what the receipts are.
@@ -107,6 +112,10 @@ pub fn offline_with<D: Disk, S: Source, K: Sink>(
     ensures silent { prints (asked words.now) ≡ false → result.2.receipts.items ≡ [] → K.taken sink.new ≡ K.taken sink.old }
     ensures unprinted { asked words.now ≡ Some Task.Print → result.0 ≡ Status.DiskFault → sink.new ≡ sink.old }
     ensures legal { HasLegal result.0 config result.2.base result.2.steps.items (K.taken sink.new ≡ K.taken sink.old) }
+    ensures source_count { HasSourceCount result.0 (S.faults source.old) (S.faults source.new) }
+    ensures sink_count { HasSinkCount result.0 (K.faults sink.old) (K.faults sink.new) }
+    ensures disk_count { HasDiskCount result.0 (D.faults disk) (D.faults result.1) }
+    ensures print_counts { asked words.now ≡ Some Task.Print → HasPrintCounts result.0 (K.faults sink.old) (K.faults sink.new) (D.faults disk) (D.faults result.1) }
     ensures later { (D.faults disk).0 ≤ (D.faults result.1).0 }
 
     // The headline, and what the receipts are.
@@ -168,6 +177,8 @@ fn play<D: Disk, K: Sink>(
     ensures unwritten { is_unwritten result.0 ≡ true → sink.new ≡ sink.old }
     ensures silent { result.2.receipts.items ≡ [] → K.taken sink.new ≡ K.taken sink.old }
     ensures legal { HasLegal result.0 config result.2.base result.2.steps.items (K.taken sink.new ≡ K.taken sink.old) }
+    ensures sink_count { HasSinkCount result.0 (K.faults sink.old) (K.faults sink.new) }
+    ensures disk_count { HasDiskCount result.0 (D.faults disk) (D.faults result.1) }
     ensures later { (D.faults disk).0 ≤ (D.faults result.1).0 }
     ensures crash_safe { IsCrashSafe (D.past result.1) (D.moment result.1) config.user_version (lists_of result.2) }
     ensures durable { (result.0 ≡ Status.Ok) ⊎ (result.0 ≡ Status.SinkFault) → IsLastCount (length (history_of result.2.steps.items)) result.2.receipts.items }

@@ -1,5 +1,5 @@
 //! Writing a report in pieces: its text never stands in memory as a whole.
-ghost use Rattle.std.specs.Prelude.{◌≡◌, ◌≤◌, ◌++◌, ◌∷◌, [], IfErr, OnOk, OnErr, Err, is_ok};
+ghost use Rattle.std.specs.Prelude.{◌≡◌, ◌⊎◌, ◌++◌, ◌∷◌, [], IfErr, OnOk, OnErr, Err, is_ok};
 ghost use Rattle.std.specs.List.{flat_map};
 ghost use Rattle.amq_model.specs.Texts.{entry_line, in_doubt_lines, report_of};
 ghost use Rattle.amq_cli.specs.Offline.{IsEnd, IsWritten};
@@ -21,6 +21,7 @@ pub fn write_report<K: Sink>(alloc: Global, state: &LoadState, sink: &mut K) -> 
     ensures status { IsEnd result Status.Ok (K.faults sink.old) (K.faults sink.new) }
     ensures part { IsPartWritten (report_of state.now) (K.taken sink.old) (K.taken sink.new) }
     ensures ok { result ≡ Status.Ok → IsWritten (report_of state.now) (K.taken sink.old) (K.taken sink.new) }
+    ensures count { (result ≡ Status.SinkFault) ⊎ (K.faults sink.new ≡ K.faults sink.old) }
 {
     match write_lines(alloc, state, sink) {
         Ok(()) => Status::Ok,
@@ -34,6 +35,7 @@ fn write_lines<K: Sink>(alloc: Global, state: &LoadState, sink: &mut K) -> Resul
     ensures ok { OnOk result (IsWritten (report_of state.now) (K.taken sink.old) (K.taken sink.new)) }
     ensures part { OnErr result (IsPartWritten (report_of state.now) (K.taken sink.old) (K.taken sink.new)) }
     ensures cause { IfErr result (λ error. HasOutputCause error (K.faults sink.old) (K.faults sink.new)) }
+    ensures sound { OnOk result (K.faults sink.new ≡ K.faults sink.old) }
 {
     let mut waiting = Vec::new(alloc);
     grown(push_live_count(&mut waiting, state.live.len() as u64))?;
@@ -54,7 +56,7 @@ fn write_entries<K: Sink>(
     ensures part { OnErr result
         (IsPartWritten (waiting.old.items ++ flat_map entry_line entries.now) (K.taken sink.old) (K.taken sink.new)) }
     ensures cause { IfErr result (λ error. HasOutputCause error (K.faults sink.old) (K.faults sink.new)) }
-    ensures later { K.faults sink.old ≤ K.faults sink.new }
+    ensures sound { OnOk result (K.faults sink.new ≡ K.faults sink.old) }
 {
     for entry in entries {
         write_entry(waiting, entry, sink)?;
@@ -69,7 +71,7 @@ fn write_entry<K: Sink>(waiting: &mut Vec<u8>, entry: &Entry, sink: &mut K) -> R
     ensures part { OnErr result
         (IsPartWritten (waiting.old.items ++ entry_line entry.now) (K.taken sink.old) (K.taken sink.new)) }
     ensures cause { IfErr result (λ error. HasOutputCause error (K.faults sink.old) (K.faults sink.new)) }
-    ensures later { K.faults sink.old ≤ K.faults sink.new }
+    ensures sound { OnOk result (K.faults sink.new ≡ K.faults sink.old) }
 {
     grown(push_entry(waiting, entry))?;
     write_piece(waiting, sink)
@@ -86,7 +88,7 @@ fn write_in_doubts<K: Sink>(
     ensures part { OnErr result
         (IsPartWritten (waiting.old.items ++ flat_map in_doubt_lines transactions.now) (K.taken sink.old) (K.taken sink.new)) }
     ensures cause { IfErr result (λ error. HasOutputCause error (K.faults sink.old) (K.faults sink.new)) }
-    ensures later { K.faults sink.old ≤ K.faults sink.new }
+    ensures sound { OnOk result (K.faults sink.new ≡ K.faults sink.old) }
 {
     for transaction in transactions {
         write_in_doubt(waiting, transaction, sink)?;
@@ -105,7 +107,7 @@ fn write_in_doubt<K: Sink>(
     ensures part { OnErr result
         (IsPartWritten (waiting.old.items ++ in_doubt_lines transaction.now) (K.taken sink.old) (K.taken sink.new)) }
     ensures cause { IfErr result (λ error. HasOutputCause error (K.faults sink.old) (K.faults sink.new)) }
-    ensures later { K.faults sink.old ≤ K.faults sink.new }
+    ensures sound { OnOk result (K.faults sink.new ≡ K.faults sink.old) }
 {
     grown(push_in_doubt(waiting, transaction))?;
     write_piece(waiting, sink)
@@ -118,7 +120,7 @@ fn write_piece<K: Sink>(waiting: &mut Vec<u8>, sink: &mut K) -> Result<(), SinkE
     ensures part { OnErr result
         (IsPartWritten waiting.old.items (K.taken sink.old) (K.taken sink.new)) }
     ensures cause { IfErr result (λ error. HasOutputCause error (K.faults sink.old) (K.faults sink.new)) }
-    ensures later { K.faults sink.old ≤ K.faults sink.new }
+    ensures sound { OnOk result (K.faults sink.new ≡ K.faults sink.old) }
 {
     if waiting.len() < PIECE {
         return Ok(());

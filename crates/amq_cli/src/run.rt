@@ -9,6 +9,7 @@ ghost use Rattle.amq_model.specs.Leaves.{Leaves, Unchanged, LeavesNothingNew, To
 ghost use Rattle.amq_engine.specs.Receipts.{IsCrashSafe, IsLastCount, GoesOn, BeginsBySyncs};
 ghost use Rattle.amq_cli.specs.Offline.{lists_of, HasLegal, HasRolledBack, HasRun, HasRunCause, HasText, IsLoadedState, IsReported, HasRunOn, HasDiskCause, is_unwritten};
 ghost use Rattle.amq_cli.specs.Owed.{HasOwed};
+ghost use Rattle.amq_cli.specs.Counts.{HasDiskCount, HasLoadCount};
 ghost use Rattle.amq_cli.specs.Playing.{HasPlayed, KeepsFirst};
 ghost use Rattle.amq_cli.specs.Replay.{is_built};
 ghost use Rattle.amq_cli.specs.Statuses.{status_of, status_of_opening};
@@ -38,6 +39,7 @@ pub fn run<D: Disk>(
     ensures text { HasText config.buffer_timeout result.0 (IsLoadedState (D.past result.1) config.user_version result.2.base result.2.steps.items) lines.items (D.faults disk) (D.faults result.1) result.2.steps.items result.2.receipts.items text.new.items }
     ensures unbuilt { is_unwritten result.0 ≡ true → text.new.items ≡ [] }
     ensures silent { result.2.receipts.items ≡ [] → text.new.items ≡ [] }
+    ensures count { HasDiskCount result.0 (D.faults disk) (D.faults result.1) }
     ensures cause { HasRunCause config (lists_of result.2) result.0 (D.past disk) (D.past result.1) (D.faults disk) (D.faults result.1) }
     ensures legal { HasLegal result.0 config result.2.base result.2.steps.items (text.new.items ≡ []) }
     ensures later { (D.faults disk).0 ≤ (D.faults result.1).0 }
@@ -79,6 +81,7 @@ fn run_on<D: Disk>(
     requires begun { HasPlayed engine.config.buffer_timeout [] (λ label. 0) 1 engine text.old.items }
     ensures run { result.0 ≡ Status.Ok → HasRunOn engine.config lines.items text.new.items (D.past result.1) result.2.base result.2.steps.items result.2.receipts.items }
     ensures text { HasText engine.config.buffer_timeout result.0 (IsLoadedState (D.past result.1) engine.config.user_version result.2.base result.2.steps.items) lines.items (D.faults engine.disk) (D.faults result.1) result.2.steps.items result.2.receipts.items text.new.items }
+    ensures count { HasDiskCount result.0 (D.faults engine.disk) (D.faults result.1) }
     ensures cause { HasDiskCause result.0 (D.faults engine.disk) (D.faults result.1) }
     ensures base { result.2.base ≡ engine.chronicle.base }
     ensures legal { AreLegal result.2.base result.2.steps.items engine.config }
@@ -111,6 +114,7 @@ fn run_on<D: Disk>(
 fn add_report<D: Disk>(alloc: Global, disk: &mut D, user_version: u32, text: &mut Vec<u8>) -> Status
     ensures reported { result ≡ Status.Ok → IsReported user_version text.old.items text.new.items (D.past disk.old) (D.past disk.new) }
     ensures unreported { (result ≡ Status.Ok) ⊎ (text.new.items ≡ text.old.items) }
+    ensures count { HasLoadCount result (D.faults disk.old) (D.faults disk.new) }
     ensures cause { HasDiskCause result (D.faults disk.old) (D.faults disk.new) }
     ensures later { (D.faults disk.old).0 ≤ (D.faults disk.new).0 }
     ensures only_asks { Leaves Unchanged Unchanged (D.past disk.old) (D.past disk.new) }

@@ -1,6 +1,7 @@
 //! Reading the script of a replay.
-ghost use Rattle.std.specs.Prelude.{◌≡◌, ◌≤◌, Some, IsTrue, All, IfOk, IfErr};
+ghost use Rattle.std.specs.Prelude.{◌≡◌, ◌≤◌, Some, IsTrue, All, IfOk, IfErr, OnOk};
 ghost use Rattle.std.specs.List.{list_all};
+ghost use Rattle.amq_cli.specs.Counts.{HasSourceCount};
 ghost use Rattle.amq_cli.specs.Replay.{is_built, built_lines, script_lines};
 ghost use Rattle.amq_cli.specs.Script.{IsSaid, HasScriptCause, HasReadCause};
 
@@ -20,7 +21,8 @@ pub fn read_script<S: Source>(alloc: Global, source: &mut S) -> Result<Vec<Line>
     ensures said { IfOk result (λ lines. IsSaid lines.items (S.left source.old) (S.left source.new)) }
     ensures built { IfOk result (λ lines. All (λ line. IsTrue (is_built line)) lines.items) }
     ensures cause { IfErr result (λ status. HasReadCause status (S.left source.old) (S.faults source.old) (S.faults source.new)) }
-    ensures later { S.faults source.old ≤ S.faults source.new }
+    ensures count { IfErr result (λ status. HasSourceCount status (S.faults source.old) (S.faults source.new)) }
+    ensures sound { OnOk result (S.faults source.new ≡ S.faults source.old) }
 {
     match read_whole(alloc, source) {
         Ok(bytes) => lines_of(alloc, &bytes),

@@ -1,4 +1,4 @@
-use Rattle.std.proofs.Common.{◌≡◌, ◌≤◌, ℕ, List, ◌++◌, length, take, sym, ap, subst, arith, rules}
+use Rattle.std.proofs.Common.{◌≡◌, ◌≤◌, ℕ, List, ◌++◌, length, take, sym, ap, subst, ◌∙◌, arith, rules}
 use Rattle.std.proofs.lemmas.List.{length-append, length-take-le}
 use Rattle.amq_cli.proofs.Pieces.{IsReadPart, one_more}
 use Rattle.amq_cli.proofs.input.read_whole.Goals as goal
@@ -16,5 +16,5 @@ pieces-preserved g c =
       short = search rules;
       part = subst (λ (b : List ℕ). IsReadPart b (g.S.Source.left c.args.source.now) (g.S.Source.left c.read.new.self)) (sym more)
           (one_more n bytes piece (g.S.Source.left c.args.source.now) (g.S.Source.left c.pieces.source) (g.S.Source.left c.read.new.self) c.pieces.invariant.part c.in-Ok.ensures.next);
-      later = omega (arith, c.pieces.invariant.later, c.read.ensures.later);
+      sound = c.in-Ok.ensures.sound ∙ c.pieces.invariant.sound;
     }

@@ -1,4 +1,4 @@
-use Rattle.std.proofs.Common.{◌≤◌, length}
+use Rattle.std.proofs.Common.{◌≡◌, ◌≤◌, length}
 use Rattle.amq_cli.proofs.Pieces.{IsReadPart}
 use Rattle.amq_cli.proofs.input.read_whole.Given as goal
 
@@ -8,5 +8,5 @@ invariant-pieces g l = record {
   enough : l._taken ≤ length l.bytes.items;
   short : length l.bytes.items ≤ 67108864;
   part : IsReadPart l.bytes.items (g.S.Source.left l.fn.source) (g.S.Source.left l.source);
-  later : g.S.Source.faults l.fn.source ≤ g.S.Source.faults l.source;
+  sound : g.S.Source.faults l.source ≡ g.S.Source.faults l.fn.source;
 }

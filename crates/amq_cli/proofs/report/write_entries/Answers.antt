@@ -1,4 +1,4 @@
-use Rattle.std.proofs.Common.{arith}
+use Rattle.std.proofs.Common.{◌∙◌}
 use Rattle.amq_model.specs.Texts.{entry_line}
 use Rattle.amq_print.proofs.Joins.{on_err}
 use Rattle.amq_cli.proofs.Reporting.{lines_part, lines_sent}
@@ -14,5 +14,5 @@ pub loop-entry-preserved : goal.loop-entry-preserved
 loop-entry-preserved g c = record {
   sent = lines_sent entry_line c.args.entries.now c.args.waiting.now.items c.loop-entry.entry-index c.entry-item.result c.loop-entry.waiting.items c.write_entry.new.waiting.items (g.K.Sink.taken c.args.sink.now) (g.K.Sink.taken c.loop-entry.sink) (g.K.Sink.taken c.write_entry.new.sink)
       c.loop-entry-test.true c.entry-item.is c.loop-entry.invariant.sent c.in_ok-write_entry.ensures.ok;
-  later = omega (arith, c.loop-entry.invariant.later, c.write_entry.ensures.later);
+  sound = c.in_ok-write_entry.ensures.sound ∙ c.loop-entry.invariant.sound;
 }

@@ -1,4 +1,4 @@
-use Rattle.std.proofs.Common.{arith}
+use Rattle.std.proofs.Common.{◌∙◌}
 use Rattle.amq_model.specs.Texts.{in_doubt_lines}
 use Rattle.amq_print.proofs.Joins.{on_err}
 use Rattle.amq_cli.proofs.Reporting.{lines_part, lines_sent}
@@ -14,5 +14,5 @@ pub loop-transaction-preserved : goal.loop-transaction-preserved
 loop-transaction-preserved g c = record {
   sent = lines_sent in_doubt_lines c.args.transactions.now c.args.waiting.now.items c.loop-transaction.transaction-index c.transaction-item.result c.loop-transaction.waiting.items c.write_in_doubt.new.waiting.items (g.K.Sink.taken c.args.sink.now) (g.K.Sink.taken c.loop-transaction.sink) (g.K.Sink.taken c.write_in_doubt.new.sink)
       c.loop-transaction-test.true c.transaction-item.is c.loop-transaction.invariant.sent c.in_ok-write_in_doubt.ensures.ok;
-  later = omega (arith, c.loop-transaction.invariant.later, c.write_in_doubt.ensures.later);
+  sound = c.in_ok-write_in_doubt.ensures.sound ∙ c.loop-transaction.invariant.sound;
 }

@@ -13,7 +13,8 @@ use Rattle.amq_engine.proofs.GoingOn.{goes_by, goes_through}
 use Rattle.amq_engine.proofs.Noting.{both_true}
 use Rattle.amq_cli.proofs.Answering.{no_step}
 use Rattle.amq_cli.proofs.Ending.{owed_more}
-use Rattle.amq_cli.proofs.Causes.{cause_of_call}
+use Rattle.amq_cli.proofs.Causes.{cause_of_call, count_behind, count_refused}
+use Rattle.amq_cli.specs.Counts.{HasDiskCount}
 use Rattle.amq_cli.proofs.Beginning.{first_through, first_receipted}
 use Rattle.amq_cli.proofs.Recovering.{safe_still, last_of_all}
 use Rattle.amq_cli.proofs.Loading.{has_run_on, never_done, closed_so}
@@ -141,3 +142,17 @@ returns-clause-owed g c =
     let kept = c.close-disk.result.1 in
     owed_more c.args.engine.config c.args.lines.items played.durable played.appended (lists_of played.chronicle) (lists_of kept) c.close-disk.ensures.told.last c.close-disk.ensures.told.history
     (no_step _ played.durable played.appended _ (lists_of played.chronicle) (lists_of kept) (λ both. c.close-disk.ensures.waits (both_true (is_ok c.close-disk.result.2) (is_some played.since) both).1) c.close-disk.ensures.receipt) c.replay-played.ensures.owed
+
+pub returns-clause-count : goal.returns-clause-count
+returns-clause-count g c =
+    let faults = g.D.Disk.faults in
+    let was = faults c.args.engine.disk in
+    let played = faults c.replay-played.new.engine.disk in
+    let closed = faults c.close-disk.result.0 in
+    let now = faults c.match-played.disk in
+    elim c.match-played.branch [
+      | in-Ok+in-Ok-closed w ↦ subst (λ s. HasDiskCount s was now) (sym w.status-is) (subst (λ d. HasDiskCount w.add_report.result was (faults d)) (sym w.disk-is)
+          (count_behind w.add_report.result was played closed (faults w.add_report.new.disk) w.in-Ok.ensures.cause (subst (λ r. HasCause r played closed) w.in-Ok-closed.is c.close-disk.ensures.cause) w.add_report.ensures.count))
+      | in-Ok+in-Err-closed w ↦ subst (λ s. HasDiskCount s was now) (sym (w.status-is ∙ w.status_of_refusal.ensures)) (count_refused (status_of w.in-Err-closed.refusal) was now (refusal_status w.in-Err-closed.refusal))
+      | in-Err w ↦ subst (λ s. HasDiskCount s was now) (sym (w.status-is ∙ w.status_of_refusal-status.ensures)) (count_refused (status_of w.in-Err.refusal) was now (refusal_status w.in-Err.refusal))
+    ]
