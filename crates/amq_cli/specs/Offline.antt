@@ -1,5 +1,5 @@
 -- What the program's commands leave.
-use Rattle.std.specs.Prelude.{◌≡◌, ◌⊎◌, ℕ, ◌<◌, ◌≤◌, Bool, true, false, List, [], ◌∷◌, ◌++◌, length, Option, None, Some, option_map, IfSome}
+use Rattle.std.specs.Prelude.{◌≡◌, ◌⊎◌, ℕ, ◌+◌, ◌<◌, ◌≤◌, Bool, true, false, List, [], ◌∷◌, ◌++◌, length, Option, None, Some, option_map, IfSome}
 use Rattle.std.specs.FinMap as finite
 use Rattle.amq_model.specs.declared.script.Line.{Line}
 use Rattle.amq_model.specs.declared.script.Line.TheVariants as l
@@ -21,7 +21,7 @@ use Rattle.amq_model.specs.Texts.{report_of, refusal_line}
 use Rattle.amq_io.specs.Cause.{Rose, Faults}
 use Rattle.amq_loader.specs.Loads.{IsFaulty, IsStateOf}
 use Rattle.amq_engine.specs.Engine.{AreAppended}
-use Rattle.amq_engine.specs.Opening.{HasBase, HasOpenCause}
+use Rattle.amq_engine.specs.Opening.{HasBase, HasNumbers, StandBehind, HasOpenCause}
 use Rattle.amq_engine.specs.Lists.{Lists}
 use Rattle.amq_engine.specs.declared.chronicle.Kept.{Kept}
 use Rattle.amq_engine.specs.declared.chronicle.Receipted.{Receipted}
@@ -113,6 +113,10 @@ HasLegal status config base steps Silent = AreLegal base steps config ⊎ ((is_o
 -- Each transaction that the opening rolls back has its ROLLBACK among the appends; or the opening was refused, and each of its steps was appended.
 abbrev pub HasRolledBack : Status → List Placed → List Step → Type 0
 HasRolledBack status base steps = AreAppended (length (rolled_back base)) steps ⊎ ((is_of_refused status ≡ true) × AreAppended (length steps) steps)
+
+-- Where there is a receipt, the appends stand one behind the other from the head of the file on that has the number behind all that the directory had: each right behind the one before it where the file size allows that, else first in the file of the next number.
+abbrev pub AreInNewFiles : Config → Option Past → List Step → List Receipted → Type 0
+AreInNewFiles config old steps receipts = (receipts ≡ []) ⊎ Told old (λ s. (files : ℕ) × (before : ℕ) × HasNumbers files before s × StandBehind config (before + 1) 16 (history_of steps))
 
 -- all lines were answered
 abbrev pub AreAll : List Line → List Answered → Type 0

@@ -7,6 +7,7 @@ use Rattle.amq_engine.specs.declared.chronicle.Kept.{Kept}
 use Rattle.amq_engine.specs.declared.chronicle.Receipted.{Receipted}
 use Rattle.amq_engine.specs.Lists.{Lists}
 use Rattle.amq_engine.specs.Engine.{EngineOf}
+use Rattle.amq_engine.specs.Opening.{StandsFrom}
 use Rattle.amq_engine.specs.Receipts.{StartsWith, IsLastCount}
 use Rattle.amq_engine.specs.Owed.{waiting_behind, BeginOwed}
 use Rattle.amq_model.specs.declared.config.Config.{Config}
@@ -24,6 +25,10 @@ Grows durable appended old new = (new.receipts ≡ old.receipts) ⊎ ((r : Recei
 pub record HasNoStep (durable appended : ℕ) (old new : Lists) : Type 0 where
   pub steps : new.steps ≡ old.steps
   pub receipts : Grows durable appended old new
+
+-- where the history stands as it must, from the head of a first file on, it does so behind further calls
+abbrev pub StandsOn : {D : Type 0} → EngineOf D Kept → EngineOf D Kept → Type 0
+StandsOn old new = (first : ℕ) → StandsFrom old.config first old.file old.end (lists_of old.chronicle) → StandsFrom new.config first new.file new.end (lists_of new.chronicle)
 
 -- the first receipt stays the first
 abbrev pub KeepsFirst : Lists → Lists → Type 0

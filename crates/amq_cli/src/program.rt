@@ -9,7 +9,7 @@ ghost use Rattle.amq_engine.specs.Opening.{HasBase};
 ghost use Rattle.amq_engine.specs.Receipts.{IsCrashSafe, IsLastCount, BeginsBySyncs};
 ghost use Rattle.amq_cli.specs.Counts.{HasSourceCount, HasSinkCount, HasDiskCount, HasPrintCounts};
 ghost use Rattle.amq_cli.specs.Words.{asked, prints, reads_script};
-ghost use Rattle.amq_cli.specs.Offline.{lists_of, HasCause, HasLegal, HasRolledBack, HasPlayCause, IsRun, IsPlayed, IsTextOf, IsOutput, IsPrint, IsScript, IsLoadedState, is_before_opening, is_past_script, is_unwritten, defaults, IsWritten};
+ghost use Rattle.amq_cli.specs.Offline.{lists_of, HasCause, HasLegal, HasRolledBack, AreInNewFiles, HasPlayCause, IsRun, IsPlayed, IsTextOf, IsOutput, IsPrint, IsScript, IsLoadedState, is_before_opening, is_past_script, is_unwritten, defaults, IsWritten};
 ghost use Rattle.amq_cli.specs.Owed.{HasOwed, IsOwedRun};
 ghost use Rattle.amq_cli.specs.Output.{IsPartWritten};
 ghost use Rattle.amq_cli.specs.Replay.{is_built};
@@ -70,6 +70,7 @@ pub fn offline<D: Disk, S: Source, K: Sink>(
     ensures opened { (result.2.receipts.items ≡ []) ⊎ Told (D.past disk) (HasBase defaults.user_version result.2.base) }
     ensures blank { result.2.receipts.items ≡ [] → IsBlank (lists_of result.2) }
     ensures spent { AreSpentAtLast [] result.2.steps.items }
+    ensures stands { AreInNewFiles defaults (D.past disk) result.2.steps.items result.2.receipts.items }
     ensures rolled { HasRolledBack result.0 result.2.base result.2.steps.items }
     ensures nothing_new { result.2.receipts.items ≡ [] → LeavesNothingNew (D.past disk) (D.past result.1) }
     ensures begins { BeginsBySyncs result.2.receipts.items (D.past disk) (D.past result.1) }
@@ -124,6 +125,7 @@ pub fn offline_with<D: Disk, S: Source, K: Sink>(
     ensures opened { (result.2.receipts.items ≡ []) ⊎ Told (D.past disk) (HasBase config.user_version result.2.base) }
     ensures blank { result.2.receipts.items ≡ [] → IsBlank (lists_of result.2) }
     ensures spent { AreSpentAtLast [] result.2.steps.items }
+    ensures stands { AreInNewFiles config (D.past disk) result.2.steps.items result.2.receipts.items }
     ensures rolled { HasRolledBack result.0 result.2.base result.2.steps.items }
     ensures nothing_new { result.2.receipts.items ≡ [] → LeavesNothingNew (D.past disk) (D.past result.1) }
     ensures begins { BeginsBySyncs result.2.receipts.items (D.past disk) (D.past result.1) }
@@ -185,6 +187,7 @@ fn play<D: Disk, K: Sink>(
     ensures opened { (result.2.receipts.items ≡ []) ⊎ Told (D.past disk) (HasBase config.user_version result.2.base) }
     ensures blank { result.2.receipts.items ≡ [] → IsBlank (lists_of result.2) }
     ensures spent { AreSpentAtLast [] result.2.steps.items }
+    ensures stands { AreInNewFiles config (D.past disk) result.2.steps.items result.2.receipts.items }
     ensures rolled { HasRolledBack result.0 result.2.base result.2.steps.items }
     ensures nothing_new { result.2.receipts.items ≡ [] → LeavesNothingNew (D.past disk) (D.past result.1) }
     ensures begins { BeginsBySyncs result.2.receipts.items (D.past disk) (D.past result.1) }

@@ -10,7 +10,7 @@ ghost use Rattle.amq_cli.specs.Ended.{HasReplayCause};
 ghost use Rattle.amq_cli.specs.Labelled.{number_in};
 ghost use Rattle.amq_cli.specs.Outcomes.{answer_in, text_in};
 ghost use Rattle.amq_cli.specs.Owed.{HasOwed};
-ghost use Rattle.amq_cli.specs.Playing.{HasPlayed, HasNoStep, KeepsFirst, IsPlaying, AreNumbersOf};
+ghost use Rattle.amq_cli.specs.Playing.{HasPlayed, HasNoStep, KeepsFirst, StandsOn, IsPlaying, AreNumbersOf};
 
 use crate::labels::Labels;
 use amq_engine::{Engine, Kept};
@@ -52,6 +52,7 @@ fn give<D: Disk>(
     ensures later { (D.faults engine.old.disk).0 ≤ (D.faults engine.new.disk).0 }
     ensures goes_on { GoesOn (D.past engine.old.disk) (D.past engine.new.disk) }
     ensures first { KeepsFirst (lists_of engine.old.chronicle) (lists_of engine.new.chronicle) }
+    ensures stands { StandsOn engine.old engine.new }
 {
     let given = *number;
     *number += 1;
@@ -139,6 +140,7 @@ fn give_labelled<D: Disk>(
     ensures later { (D.faults engine.old.disk).0 ≤ (D.faults engine.new.disk).0 }
     ensures goes_on { GoesOn (D.past engine.old.disk) (D.past engine.new.disk) }
     ensures first { KeepsFirst (lists_of engine.old.chronicle) (lists_of engine.new.chronicle) }
+    ensures stands { StandsOn engine.old engine.new }
 {
     if !is_begin(&command) {
         return give(engine, number, with_number(labels.number(label), command));
@@ -180,6 +182,7 @@ fn answer_line<D: Disk>(
     ensures later { (D.faults engine.old.disk).0 ≤ (D.faults engine.new.disk).0 }
     ensures goes_on { GoesOn (D.past engine.old.disk) (D.past engine.new.disk) }
     ensures first { KeepsFirst (lists_of engine.old.chronicle) (lists_of engine.new.chronicle) }
+    ensures stands { StandsOn engine.old engine.new }
 {
     match line {
         Line::Plain(command) => match give(engine, number, command) {
@@ -244,6 +247,7 @@ fn play_line<D: Disk>(
     ensures later { (D.faults engine.old.disk).0 ≤ (D.faults engine.new.disk).0 }
     ensures goes_on { GoesOn (D.past engine.old.disk) (D.past engine.new.disk) }
     ensures first { KeepsFirst (lists_of engine.old.chronicle) (lists_of engine.new.chronicle) }
+    ensures stands { StandsOn engine.old engine.new }
 {
     match answer_line(engine, labels, number, line) {
         Ok(outcome) => match push_outcome(text, &outcome) {
@@ -278,6 +282,7 @@ pub fn replay<D: Disk>(
     ensures later { (D.faults engine.old.disk).0 ≤ (D.faults engine.new.disk).0 }
     ensures goes_on { GoesOn (D.past engine.old.disk) (D.past engine.new.disk) }
     ensures first { KeepsFirst (lists_of engine.old.chronicle) (lists_of engine.new.chronicle) }
+    ensures stands { StandsOn engine.old engine.new }
 {
     // The last one stands at the front, so that each is taken from the end.
     lines.reverse();

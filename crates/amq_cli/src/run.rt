@@ -1,13 +1,13 @@
 //! Running the commands of a script on a disk.
-ghost use Rattle.std.specs.Prelude.{◌≡◌, ◌≢◌, ◌⊎◌, ◌^◌, ◌<◌, ◌≤◌, true, [], length, All, IsTrue, None, IfSome};
+ghost use Rattle.std.specs.Prelude.{◌≡◌, ℕ, ◌≢◌, ◌⊎◌, ◌^◌, ◌<◌, ◌≤◌, true, [], length, All, IsTrue, None, IfSome};
 ghost use Rattle.amq_model.specs.Answers.{history_of};
 ghost use Rattle.amq_model.specs.Configs.{IsConfig};
 ghost use Rattle.amq_model.specs.Legal.{AreLegal, rolled_back};
 ghost use Rattle.amq_engine.specs.Engine.{IsBlank, AreAppended, AreSpentAtLast};
-ghost use Rattle.amq_engine.specs.Opening.{HasBase};
+ghost use Rattle.amq_engine.specs.Opening.{HasBase, StandsFrom, StandBehind};
 ghost use Rattle.amq_model.specs.Leaves.{Leaves, Unchanged, LeavesNothingNew, Told};
 ghost use Rattle.amq_engine.specs.Receipts.{IsCrashSafe, IsLastCount, GoesOn, BeginsBySyncs};
-ghost use Rattle.amq_cli.specs.Offline.{lists_of, HasLegal, HasRolledBack, HasRun, HasRunCause, HasText, IsLoadedState, IsReported, HasRunOn, HasDiskCause, is_unwritten};
+ghost use Rattle.amq_cli.specs.Offline.{lists_of, HasLegal, HasRolledBack, AreInNewFiles, HasRun, HasRunCause, HasText, IsLoadedState, IsReported, HasRunOn, HasDiskCause, is_unwritten};
 ghost use Rattle.amq_cli.specs.Owed.{HasOwed};
 ghost use Rattle.amq_cli.specs.Counts.{HasDiskCount, HasLoadCount};
 ghost use Rattle.amq_cli.specs.Playing.{HasPlayed, KeepsFirst};
@@ -48,6 +48,7 @@ pub fn run<D: Disk>(
     ensures opened { (result.2.receipts.items ≡ []) ⊎ Told (D.past disk) (HasBase config.user_version result.2.base) }
     ensures blank { result.2.receipts.items ≡ [] → IsBlank (lists_of result.2) }
     ensures spent { AreSpentAtLast [] result.2.steps.items }
+    ensures stands { AreInNewFiles config (D.past disk) result.2.steps.items result.2.receipts.items }
     ensures rolled { HasRolledBack result.0 result.2.base result.2.steps.items }
     ensures nothing_new { result.2.receipts.items ≡ [] → LeavesNothingNew (D.past disk) (D.past result.1) }
     ensures begins { BeginsBySyncs result.2.receipts.items (D.past disk) (D.past result.1) }
@@ -90,6 +91,7 @@ fn run_on<D: Disk>(
     ensures durable { result.0 ≡ Status.Ok → IsLastCount (length (history_of result.2.steps.items)) result.2.receipts.items }
     ensures receipted { result.2.receipts.items ≢ [] }
     ensures spent { AreSpentAtLast [] result.2.steps.items }
+    ensures stands { (first : ℕ) → StandsFrom engine.config first engine.file engine.end (lists_of engine.chronicle) → StandBehind engine.config first 16 (history_of result.2.steps.items) }
     ensures rolled { AreAppended (length (rolled_back result.2.base)) result.2.steps.items }
     ensures goes_on { GoesOn (D.past engine.disk) (D.past result.1) }
     ensures first { KeepsFirst (lists_of engine.chronicle) (lists_of result.2) }

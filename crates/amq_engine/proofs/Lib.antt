@@ -24,6 +24,7 @@ pub mod Found
 pub mod Begun
 pub mod RollingBack
 pub mod Rollbacks
+pub mod Places
 pub mod Owing
 pub mod Started
 pub mod ReceiptExamples

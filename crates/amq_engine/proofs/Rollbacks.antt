@@ -28,7 +28,7 @@ end_is_last : (end : ℕ) (q : Placed) (qs : List Placed) → fold (λ _ p. p.pl
 end_is_last end q [] = refl
 end_is_last end q (s ∷ ss) = end_is_last (q.place + len_of q.rec) s ss
 
-end_is : (history : List Placed) → fold (λ _ p. p.place + len_of p.rec) 16 history ≡ end_of history
+pub end_is : (history : List Placed) → fold (λ _ p. p.place + len_of p.rec) 16 history ≡ end_of history
 end_is [] = refl
 end_is (q ∷ qs) = end_is_last 16 q qs
 

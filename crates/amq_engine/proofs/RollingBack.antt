@@ -166,7 +166,7 @@ roll_spent past moment lists room config table pool t base n tx there v spent_is
 
 -- ---- what a rollback leaves
 
-end_snoc : (ps : List Placed) (q : Placed) → end_of (ps ++ q ∷ []) ≡ q.place + len_of q.rec
+pub end_snoc : (ps : List Placed) (q : Placed) → end_of (ps ++ q ∷ []) ≡ q.place + len_of q.rec
 end_snoc [] q = refl
 end_snoc (p ∷ []) q = refl
 end_snoc (p ∷ r ∷ rs) q = end_snoc (r ∷ rs) q

@@ -45,6 +45,15 @@ pub record HasNumbers (files highest : ℕ) (s : Files) : Type 0 where
 abbrev pub AreRolledBack : List Placed → List Step → Type 0
 AreRolledBack base steps = (length steps ≡ length (rolled_back base)) × (length (history_of steps) ≡ length (rolled_back base)) × OpensPartly 1 (rolled_back base) steps
 
+-- where a record of this length stands behind what ends there in that file: right there, where it ends within the file size, else first in the file with the next number
+abbrev pub place_behind : Config → ℕ → ℕ → ℕ → ℕ × ℕ
+place_behind config file end len = if nat_lt config.file_size (end + len) then (file + 1, 16) else (file, end)
+
+-- each of these records stands so behind the one before it, and the first behind what ends there in that file
+abbrev pub StandBehind : Config → ℕ → ℕ → List Placed → Type 0
+StandBehind config file end [] = Unit {0}
+StandBehind config file end (p ∷ ps) = ((p.file, p.place) ≡ place_behind config file end (len_of p.rec)) × StandBehind config p.file (p.place + len_of p.rec) ps
+
 -- where a rollback stands behind what ends there in that file: right there, where it ends within the file size, else first in the file with the next number
 abbrev pub rollback_behind : Config → ℕ → ℕ → ℕ → Placed
 rollback_behind config file end tx =
@@ -65,6 +74,10 @@ pub record AreFirstRollbacks (config : Config) (l : Lists) (s : Files) : Type 0 
 -- The file in use is that of the last append, or the one that was begun, and the last append ends there.
 abbrev pub EndsIn : ℕ → List Placed → ℕ → ℕ → Type 0
 EndsIn first history file end = (file ≡ fold (λ _ p. p.file) first history) × (end ≡ end_of history)
+
+-- The history stands so from the head of the first file on, and the file in use and the end in it are those of its last record.
+abbrev pub StandsFrom : Config → ℕ → ℕ → ℕ → Lists → Type 0
+StandsFrom config first file end l = StandBehind config first 16 (history_of l.steps) × EndsIn first (history_of l.steps) file end
 
 -- The history is the rollbacks of these transactions, from the head of the file on that has the number behind all that there were; the file in use is that of the last one, and the prepared files have the numbers behind it; they are as many as make the least number of files, unless numbers are spent, and no more.
 pub record IsFilled (config : Config) (txs : List ℕ) (history : List Placed) (file end highest : ℕ) (free : List ℕ) (s : Files) : Type 0 where

@@ -11,7 +11,7 @@ ghost use Rattle.amq_io.specs.Cause.{NoneFailed};
 ghost use Rattle.amq_buffer.specs.Buffered.{is_due};
 ghost use Rattle.amq_loader.specs.Loads.{IsStateOf, IsTidy};
 ghost use Rattle.amq_engine.specs.Directory.{IsJournal};
-ghost use Rattle.amq_engine.specs.Opening.{HasBase, AreRolledBack, AreFirstRollbacks, IsFilled, HasOpenCause};
+ghost use Rattle.amq_engine.specs.Opening.{HasBase, AreRolledBack, AreFirstRollbacks, IsFilled, StandsFrom, HasOpenCause};
 ghost use Rattle.amq_engine.specs.Receipts.{IsCrashSafe, GoesOn, BeginsBySyncs};
 ghost use Rattle.amq_engine.specs.Engine.{Notes, IsCommandAnswer, IsCommandRefusal, IsChronicle, IsBlank, AreSpentAtLast, HasCause, IsFlushRefusal, closed_after, durable_after, fault_refusal, closed_by, receipted, IsReply, prepares, asks_disk, flushed, behind_command, BehindRefused, behind_tick, must_flush, at_clock};
 ghost use Rattle.amq_engine.specs.Owed.{AreOwedAtOpening};
@@ -197,6 +197,7 @@ impl<D: Disk, C: Chronicle> Engine<D, C> {
         ensures cause { HasCause result (D.faults self.old.disk) (D.faults self.new.disk) }
         ensures failed { closed_after result None ≡ None → (D.faults self.new.disk).1 ≡ (D.faults self.old.disk).1 }
         ensures later { (D.faults self.old.disk).0 ≤ (D.faults self.new.disk).0 }
+        ensures stands { (first : ℕ) → IfSome (C.lists self.old.chronicle) (StandsFrom self.old.config first self.old.file self.old.end) → IfSome (C.lists self.new.chronicle) (StandsFrom self.new.config first self.new.file self.new.end) }
         ensures goes_on { GoesOn (D.past self.old.disk) (D.past self.new.disk) }
         ensures chronicle { IfSome (C.lists self.new.chronicle) (IsChronicle (D.past self.new.disk) (D.moment self.new.disk) self.new.config self.new.appended self.new.durable) }
     {
@@ -266,6 +267,7 @@ impl<D: Disk, C: Chronicle> Engine<D, C> {
         ensures cause { HasCause result (D.faults self.old.disk) (D.faults self.new.disk) }
         ensures failed { closed_after result None ≡ None → (D.faults self.new.disk).1 ≡ (D.faults self.old.disk).1 }
         ensures later { (D.faults self.old.disk).0 ≤ (D.faults self.new.disk).0 }
+        ensures stands { (first : ℕ) → IfSome (C.lists self.old.chronicle) (StandsFrom self.old.config first self.old.file self.old.end) → IfSome (C.lists self.new.chronicle) (StandsFrom self.new.config first self.new.file self.new.end) }
         ensures goes_on { GoesOn (D.past self.old.disk) (D.past self.new.disk) }
         ensures chronicle { IfSome (C.lists self.new.chronicle) (IsChronicle (D.past self.new.disk) (D.moment self.new.disk) self.new.config self.new.appended self.new.durable) }
         ensures waits { IsSome self.old.since → self.old.durable < self.old.appended }
@@ -296,6 +298,7 @@ impl<D: Disk, C: Chronicle> Engine<D, C> {
         ensures cause { HasCause result (D.faults self.old.disk) (D.faults self.new.disk) }
         ensures failed { closed_after result None ≡ None → (D.faults self.new.disk).1 ≡ (D.faults self.old.disk).1 }
         ensures later { (D.faults self.old.disk).0 ≤ (D.faults self.new.disk).0 }
+        ensures stands { (first : ℕ) → IfSome (C.lists self.old.chronicle) (StandsFrom self.old.config first self.old.file self.old.end) → IfSome (C.lists self.new.chronicle) (StandsFrom self.new.config first self.new.file self.new.end) }
         ensures goes_on { GoesOn (D.past self.old.disk) (D.past self.new.disk) }
         ensures chronicle { IfSome (C.lists self.new.chronicle) (IsChronicle (D.past self.new.disk) (D.moment self.new.disk) self.new.config self.new.appended self.new.durable) }
     {

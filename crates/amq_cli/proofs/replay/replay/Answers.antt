@@ -31,6 +31,7 @@ loop-line-init g c =
       faults = (refl, refl);
       goes = goes_still (g.D.Disk.past e.disk);
       first = first_still (lists_of e.chronicle);
+      stands = λ first stands. stands;
     }
 
 pub play_line-requires-clause-built : goal.play_line-requires-clause-built
@@ -60,6 +61,7 @@ loop-line-preserved g c =
       faults = (omega (arith, was.faults.0, c.in_ok-play_line.ensures.cause.0), c.in_ok-play_line.ensures.cause.1 ∙ was.faults.1);
       goes = goes_through (g.D.Disk.past c.args.engine.now.disk) (g.D.Disk.past c.loop-line.engine.disk) (g.D.Disk.past c.play_line.new.engine.disk) was.goes c.play_line.ensures.goes_on;
       first = first_through (lists_of c.args.engine.now.chronicle) (lists_of c.loop-line.engine.chronicle) (lists_of c.play_line.new.engine.chronicle) was.first c.play_line.ensures.first;
+      stands = λ first stands. c.play_line.ensures.stands first (was.stands first stands);
     }
 
 pub returns-in_err-play_line-clause-ended : goal.returns-in_err-play_line-clause-ended
@@ -114,3 +116,6 @@ returns-clause-owed g c =
     let all : played.0 ≡ c.args.lines.items = sym (append-nil played.0) ∙ ap (λ (ls : List Line). played.0 ++ reverse ls) (sym none) ∙ played.1 in
     subst (λ (k : Config). HasOwed k c.args.lines.items e.chronicle.steps.items e.chronicle.receipts.items) was.config
     (subst (λ (ls : List Line). HasOwed e.config ls e.chronicle.steps.items e.chronicle.receipts.items) all (all_owed c.args.engine.now.config.buffer_timeout played.0 (number_in c.loop-line.labels) c.loop-line.number e c.loop-line.text.items played.2))
+
+pub returns-in_err-play_line-clause-stands : goal.returns-in_err-play_line-clause-stands
+returns-in_err-play_line-clause-stands g c first stands = c.play_line.ensures.stands first (c.loop-line.invariant.stands first stands)

@@ -6,7 +6,7 @@ use Rattle.amq_engine.specs.Receipts.{GoesOn}
 use Rattle.amq_cli.specs.Offline.{lists_of}
 use Rattle.amq_cli.specs.Replay.{is_built}
 use Rattle.amq_cli.specs.Labelled.{number_in}
-use Rattle.amq_cli.specs.Playing.{HasPlayed, KeepsFirst}
+use Rattle.amq_cli.specs.Playing.{HasPlayed, KeepsFirst, StandsOn}
 use Rattle.amq_cli.proofs.replay.replay.Given as goal
 
 -- what was answered, and what is left
@@ -22,6 +22,7 @@ invariant-loop-line g l =
       faults : NoneFailed (g.D.Disk.faults l.fn.engine.disk) (g.D.Disk.faults l.engine.disk);
       goes : GoesOn (g.D.Disk.past l.fn.engine.disk) (g.D.Disk.past l.engine.disk);
       first : KeepsFirst (lists_of l.fn.engine.chronicle) (lists_of l.engine.chronicle);
+      stands : StandsOn l.fn.engine l.engine;
     }
 
 abbrev pub decreases-loop-line : goal.decreases-loop-line

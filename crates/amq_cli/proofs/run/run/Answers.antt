@@ -11,6 +11,8 @@ use Rattle.amq_cli.proofs.Running.{begun_played, earlier_text, unopened_text, op
 use Rattle.amq_engine.specs.Owed.{AreOwedAtOpening}
 use Rattle.amq_cli.specs.Owed.{HasOwed}
 use Rattle.amq_model.specs.Legal.{rolled_back}
+use Rattle.amq_engine.specs.Opening.{StandBehind, StandsFrom}
+use Rattle.amq_engine.proofs.Places.{told_on, told_front}
 use Rattle.amq_cli.proofs.run.run.Goals as goal
 
 pub run_on-requires-clause-begun : goal.run_on-requires-clause-begun
@@ -81,3 +83,15 @@ returns-in-Err-clause-owed g c =
     let kept = c.in-Err.field-0.chronicle in
     let none = (opens_partly 1 (rolled_back kept.base) kept.steps.items c.in-Err.ensures.failed_legal.opening).0 in
     unopened_owed c.args.config c.args.lines.items (lists_of kept) none c.in-Err.ensures.failed_owed
+
+pub returns-in-Ok-clause-stands : goal.returns-in-Ok-clause-stands
+returns-in-Ok-clause-stands g c =
+    let e = c.in-Ok.engine in
+    let config = c.args.config in
+    let same : e.config ≡ config = c.in-Ok.ensures.opened.0 in
+    inr (told_on config (rolled_back e.chronicle.base) e.file e.end e.highest e.free (lists_of e.chronicle) (lists_of c.run_on.result.2) (g.D.Disk.past c.args.disk) c.in-Ok.ensures.files
+        (λ first stands. subst (λ (k : Config). StandBehind k first 16 (history_of c.run_on.result.2.steps.items)) same (c.run_on.ensures.stands first (subst (λ (k : Config). StandsFrom k first e.file e.end (lists_of e.chronicle)) (sym same) stands))))
+
+pub returns-in-Err-clause-stands : goal.returns-in-Err-clause-stands
+returns-in-Err-clause-stands g c =
+    ⊎_elim (λ blank. inl blank.2) (λ first. inr (told_front c.args.config (lists_of c.in-Err.field-0.chronicle) (g.D.Disk.past c.args.disk) first)) c.in-Err.ensures.failed_rollbacks

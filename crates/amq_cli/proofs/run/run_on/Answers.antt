@@ -1,4 +1,4 @@
-use Rattle.std.proofs.Common.{◌≡◌, ◌⊎◌, inr, ℕ, ◌≤◌, length, sym, ap, subst, ◌∙◌, arith}
+use Rattle.std.proofs.Common.{◌≡◌, ◌⊎◌, inr, ℕ, ◌≤◌, length, sym, ap, subst, ◌∙◌, arith, List, Option, Some}
 use Rattle.std.specs.Prelude.{IsSome, IfOk, is_ok, is_some}
 use Rattle.amq_model.specs.declared.config.Config.{Config}
 use Rattle.amq_model.specs.Answers.{history_of}
@@ -19,6 +19,9 @@ use Rattle.amq_cli.proofs.Beginning.{first_through, first_receipted}
 use Rattle.amq_cli.proofs.Recovering.{safe_still, last_of_all}
 use Rattle.amq_cli.proofs.Loading.{has_run_on, never_done, closed_so}
 use Rattle.amq_cli.proofs.Running.{replayed_closed, ended_closed, reported_text, unreported_text, refused_text, refusal_status, named_refusal, between_cause, refusal_cause}
+use Rattle.amq_model.specs.declared.history.Step.{Step}
+use Rattle.amq_engine.specs.Opening.{StandBehind}
+use Rattle.amq_engine.proofs.Rollbacks.{same_steps}
 use Rattle.amq_cli.proofs.run.run_on.Goals as goal
 use Rattle.amq_cli.proofs.run.run_on.Goals.{in-Ok+in-Ok-closed, in-Ok+in-Err-closed, in-Err}
 
@@ -156,3 +159,13 @@ returns-clause-count g c =
       | in-Ok+in-Err-closed w ↦ subst (λ s. HasDiskCount s was now) (sym (w.status-is ∙ w.status_of_refusal.ensures)) (count_refused (status_of w.in-Err-closed.refusal) was now (refusal_status w.in-Err-closed.refusal))
       | in-Err w ↦ subst (λ s. HasDiskCount s was now) (sym (w.status-is ∙ w.status_of_refusal-status.ensures)) (count_refused (status_of w.in-Err.refusal) was now (refusal_status w.in-Err.refusal))
     ]
+
+pub returns-clause-stands : goal.returns-clause-stands
+returns-clause-stands g c first stands =
+    let config = c.args.engine.config in
+    let played = c.replay-played.new.engine in
+    let kept = c.close-disk.result.1 in
+    let on = c.replay-played.ensures.stands first stands in
+    let same : (let o : Option (List Step) = Some kept.steps.items in o) ≡ Some played.chronicle.steps.items = same_steps _ played.appended _ (Some (lists_of played.chronicle)) (Some (lists_of kept)) c.close-disk.ensures.receipt in
+    let steps : kept.steps.items ≡ played.chronicle.steps.items = cc in
+    subst (λ (ss : List Step). StandBehind config first 16 (history_of ss)) (sym steps) (subst (λ (k : Config). StandBehind k first 16 (history_of played.chronicle.steps.items)) c.replay-played.ensures.same.0 on.0)

@@ -15,7 +15,7 @@ use Rattle.amq_tx.specs.Refusing.{refusal_in}
 use Rattle.amq_tx.proofs.Refusals.{refusals_are}
 use Rattle.amq_pool.specs.Pools.{PoolOf, ids_of}
 use Rattle.amq_engine.specs.declared.tail.Tail.{Tail}
-use Rattle.amq_engine.specs.Lists.{Lists, with_step}
+use Rattle.amq_engine.specs.Lists.{Lists, with_step, steps_in}
 use Rattle.amq_engine.specs.Receipts.{GoesOn}
 use Rattle.amq_engine.specs.Engine.{IsChronicle, opened, IsSound, IsValid, Parts, IsReply, Notes, receipted, flushes, passes, spent, end_of_tail, readied, pool_readied, with_put, reply_of, placed_behind, fault_refusal, refused, record_len, prepares, is_nil}
 use Rattle.amq_engine.proofs.Sound.{sound_there, sound_within}
@@ -26,6 +26,9 @@ use Rattle.amq_engine.proofs.Stages.{opens_more}
 use Rattle.amq_engine.proofs.Spent.{spent_at_last}
 use Rattle.amq_engine.proofs.Noting.{noted_refused, noted_failed, noted_accepted, fault_not_spent, spent_so, asks_nothing, same_disk, nothing_refused, fits_buffer, both_true, nil_is, is_nil_ids}
 use Rattle.amq_engine.proofs.GoingOn.{goes_still}
+use Rattle.amq_engine.proofs.Places.{stands_same, stands_bare, stands_put, failed_end}
+use Rattle.amq_engine.proofs.Rollbacks.{same_steps, steps_failed}
+use Rattle.amq_engine.specs.Opening.{StandsFrom}
 use Rattle.amq_engine.proofs.engine.Engine.command.Goals as goal
 
 pub returns-in-Some-clause-chronicle : goal.returns-in-Some-clause-chronicle
@@ -462,3 +465,48 @@ returns-in-Err-ready-clause-goes_on g c = subst (λ v. GoesOn (g.D.Disk.past v.d
 
 pub returns-clause-goes_on : goal.returns-clause-goes_on
 returns-clause-goes_on g c = subst (λ v. GoesOn (g.D.Disk.past v.disk) (g.D.Disk.past c.ready.new.disk)) c.self.view_is c.ready.ensures.goes_on
+
+-- the file and the end are as they were
+pub returns-in-Some-clause-stands : goal.returns-in-Some-clause-stands
+returns-in-Some-clause-stands g c first stands = stands
+
+pub returns-in-Err-clause-stands : goal.returns-in-Err-clause-stands
+returns-in-Err-clause-stands g c =
+    let e = c.self.inside in
+    let lists = g.C.Chronicle.lists in
+    subst (λ v. (first : ℕ) → IfSome (lists v.chronicle) (StandsFrom v.config first v.file v.end) → IfSome (lists c.room_for.new.chronicle) (StandsFrom e.config first e.tail.file.id (end_of_tail e.tail))) c.self.view_is
+    (λ first stands. stands_same e.config first e.tail.file.id (end_of_tail e.tail) e.tail.file.id (end_of_tail e.tail) (lists e.chronicle) (lists c.room_for.new.chronicle) (ap steps_in c.room_for.ensures.lists) refl refl stands)
+
+pub returns-in-Some-refusal_of-clause-stands : goal.returns-in-Some-refusal_of-clause-stands
+returns-in-Some-refusal_of-clause-stands g c =
+    let e = c.self.inside in
+    let lists = g.C.Chronicle.lists in
+    subst (λ v. (first : ℕ) → IfSome (lists v.chronicle) (StandsFrom v.config first v.file v.end) → IfSome (lists c.step.new.self) (StandsFrom e.config first e.tail.file.id (end_of_tail e.tail))) c.self.view_is
+    (λ first stands. stands_bare e.config first e.tail.file.id (end_of_tail e.tail) e.tail.file.id (end_of_tail e.tail) (lists c.room_for.new.chronicle) (lists c.step.new.self) _ refl c.step.ensures.noted refl refl
+        (stands_same e.config first e.tail.file.id (end_of_tail e.tail) e.tail.file.id (end_of_tail e.tail) (lists e.chronicle) (lists c.room_for.new.chronicle) (ap steps_in c.room_for.ensures.lists) refl refl stands))
+
+pub returns-in-Err-ready-clause-stands : goal.returns-in-Err-ready-clause-stands
+returns-in-Err-ready-clause-stands g c =
+    let e = c.self.inside in
+    let lists = g.C.Chronicle.lists in
+    let t = c.ready.new.tail in
+    let same = steps_failed (c.passes-moves.result ≡ true) (e.pool.prepared ≡ []) (g.D.Disk.moment e.disk) e.tail t (lists c.room_for.new.chronicle) (lists c.ready.new.chronicle) c.in-Err-ready.ensures.err ∙ ap steps_in c.room_for.ensures.lists in
+    let at = failed_end (c.passes-moves.result ≡ true) (e.pool.prepared ≡ []) (g.D.Disk.moment e.disk) e.tail t (lists c.room_for.new.chronicle) (lists c.ready.new.chronicle) c.in-Err-ready.ensures.err in
+    subst (λ v. (first : ℕ) → IfSome (lists v.chronicle) (StandsFrom v.config first v.file v.end) → IfSome (lists c.ready.new.chronicle) (StandsFrom e.config first t.file.id (end_of_tail t))) c.self.view_is
+    (λ first stands. stands_same e.config first e.tail.file.id (end_of_tail e.tail) t.file.id (end_of_tail t) (lists e.chronicle) (lists c.ready.new.chronicle) same at.0 at.1 stands)
+
+-- the record stands where it must
+pub returns-clause-stands : goal.returns-clause-stands
+returns-clause-stands g c =
+    let e = c.self.inside in
+    let lists = g.C.Chronicle.lists in
+    let t = c.put_record-reply.new.tail in
+    let ends : e.tail.end + length c.bytes.result.now ≡ end_of_tail e.tail = ap (λ (l : List ℕ). e.tail.end + length l) c.bytes.ensures in
+    let moves : c.passes-moves.result ≡ passes e.config.file_size (end_of_tail e.tail) (record_len c.args.command) =
+    c.passes-moves.ensures ∙ ap (λ (n : ℕ). passes e.config.file_size n (option_map len_of c.in-Ok.rec)) ends ∙ ap (passes e.config.file_size (end_of_tail e.tail)) c.in-Ok.ensures.length in
+    let long : record_len c.args.command ≡ option_map len_of c.numbered-rec.result = sym (c.numbered-rec.ensures.length ∙ c.in-Ok.ensures.length) in
+    let same : steps_in (lists c.ready.new.chronicle) ≡ steps_in (lists e.chronicle) = same_steps _ e.tail.appended _ (lists c.room_for.new.chronicle) (lists c.ready.new.chronicle) c.in_default-ready.ensures.receipt ∙ ap steps_in c.room_for.ensures.lists in
+    subst (λ v. (first : ℕ) → IfSome (lists v.chronicle) (StandsFrom v.config first v.file v.end) → IfSome (lists c.step-2.new.self) (StandsFrom e.config first t.file.id (end_of_tail t))) c.self.view_is
+    (λ first stands. stands_put e.config first (state_of e.table) e.pool e.tail c.ready.new.tail t c.self.invariant.sound.parts c.passes-moves.result _ 0 c.numbered-rec.result _ (lists c.ready.new.chronicle) (lists c.step-2.new.self) (moves ∙ ap (passes e.config.file_size (end_of_tail e.tail)) long)
+        c.in_default-ready.ensures.ok c.put_record-reply.ensures.tail c.put_record-reply.ensures.placed c.step-2.ensures.noted
+        (stands_same e.config first e.tail.file.id (end_of_tail e.tail) e.tail.file.id (end_of_tail e.tail) (lists e.chronicle) (lists c.ready.new.chronicle) same refl refl stands))

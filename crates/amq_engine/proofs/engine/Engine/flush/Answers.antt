@@ -1,13 +1,16 @@
-use Rattle.std.proofs.Common.{◌<◌, ap, subst, ◌∙◌}
+use Rattle.std.proofs.Common.{◌<◌, ap, subst, ◌∙◌, ℕ}
 use Rattle.std.specs.Prelude.{IfSome, IsSome}
 use Rattle.amq_tx.specs.Tables.{state_of}
 use Rattle.amq_engine.specs.Receipts.{GoesOn}
-use Rattle.amq_engine.specs.Engine.{opened, IsChronicle}
+use Rattle.amq_engine.specs.Engine.{opened, IsChronicle, end_of_tail}
 use Rattle.amq_engine.proofs.Sound.{sound_there, sound_within}
 use Rattle.amq_engine.proofs.Flushing.{written_durable, seen_flushed}
 use Rattle.amq_engine.proofs.Commanding.{valid_chronicle}
 use Rattle.amq_engine.proofs.GoingOn.{goes_still}
 use Rattle.amq_engine.proofs.Owing.{more_appended}
+use Rattle.amq_engine.specs.Opening.{StandsFrom}
+use Rattle.amq_engine.proofs.Places.{stands_same, flushed_end}
+use Rattle.amq_engine.proofs.Rollbacks.{same_steps}
 use Rattle.amq_engine.proofs.engine.Engine.flush.Goals as goal
 
 pub returns-in-Some-clause-chronicle : goal.returns-in-Some-clause-chronicle
@@ -99,3 +102,24 @@ returns-in-Err-clause-told g c =
     let e = c.self.inside in
     subst (λ v. IfSome (g.C.Chronicle.lists v.chronicle) (IsChronicle (g.D.Disk.past v.disk) (g.D.Disk.moment v.disk) v.config v.appended v.durable)) c.self.view_is
     (valid_chronicle (g.D.Disk.past e.disk) (g.D.Disk.moment e.disk) (g.C.Chronicle.lists e.chronicle) (g.C.Chronicle.receipt_room e.chronicle) e.config (state_of e.table) e.pool e.tail c.self.invariant)
+
+pub returns-in-Some-clause-stands : goal.returns-in-Some-clause-stands
+returns-in-Some-clause-stands g c first stands = stands
+
+pub returns-in-Ok-clause-stands : goal.returns-in-Ok-clause-stands
+returns-in-Ok-clause-stands g c =
+    let e = c.self.inside in
+    let lists = g.C.Chronicle.lists in
+    let t = c.write_out.new.tail in
+    let at = flushed_end e.tail t c.in-Ok.ensures.ok in
+    subst (λ v. (first : ℕ) → IfSome (lists v.chronicle) (StandsFrom v.config first v.file v.end) → IfSome (lists c.write_out.new.chronicle) (StandsFrom e.config first t.file.id (end_of_tail t))) c.self.view_is
+    (λ first stands. stands_same e.config first e.tail.file.id (end_of_tail e.tail) t.file.id (end_of_tail t) (lists e.chronicle) (lists c.write_out.new.chronicle) (same_steps _ e.tail.appended _ (lists e.chronicle) (lists c.write_out.new.chronicle) c.write_out.ensures.receipt) at.0 at.1 stands)
+
+pub returns-in-Err-clause-stands : goal.returns-in-Err-clause-stands
+returns-in-Err-clause-stands g c =
+    let e = c.self.inside in
+    let lists = g.C.Chronicle.lists in
+    let t = c.write_out.new.tail in
+    let is : t ≡ e.tail = c.in-Err.ensures.same in
+    subst (λ v. (first : ℕ) → IfSome (lists v.chronicle) (StandsFrom v.config first v.file v.end) → IfSome (lists c.write_out.new.chronicle) (StandsFrom e.config first t.file.id (end_of_tail t))) c.self.view_is
+    (λ first stands. stands_same e.config first e.tail.file.id (end_of_tail e.tail) t.file.id (end_of_tail t) (lists e.chronicle) (lists c.write_out.new.chronicle) (same_steps _ e.tail.appended _ (lists e.chronicle) (lists c.write_out.new.chronicle) c.write_out.ensures.receipt) (ap (λ x. x.file.id) is) (ap end_of_tail is) stands)

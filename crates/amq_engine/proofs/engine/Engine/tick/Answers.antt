@@ -1,11 +1,12 @@
-use Rattle.std.proofs.Common.{◌≡◌, subst}
+use Rattle.std.proofs.Common.{◌≡◌, subst, ℕ}
 use Rattle.std.specs.Prelude.{IfSome, ◌↔◌, Some, Err}
 use Rattle.amq_tx.specs.Tables.{state_of}
 use Rattle.amq_model.specs.declared.refusal.Refusal.TheVariants.{Closed}
 use Rattle.amq_engine.specs.Receipts.{GoesOn}
-use Rattle.amq_engine.specs.Engine.{IsChronicle}
+use Rattle.amq_engine.specs.Engine.{IsChronicle, end_of_tail}
 use Rattle.amq_engine.proofs.Commanding.{valid_chronicle}
 use Rattle.amq_engine.proofs.GoingOn.{goes_still}
+use Rattle.amq_engine.specs.Opening.{StandsFrom}
 use Rattle.amq_engine.proofs.engine.Engine.tick.Goals as goal
 
 pub returns-in-Some-clause-chronicle : goal.returns-in-Some-clause-chronicle
@@ -30,3 +31,18 @@ returns-then-due-clause-goes_on g c = subst (λ v. GoesOn (g.D.Disk.past v.disk)
 
 pub returns-clause-goes_on : goal.returns-clause-goes_on
 returns-clause-goes_on g c = subst (λ v. GoesOn (g.D.Disk.past v.disk) (g.D.Disk.past c.self.inside.disk)) c.self.view_is (goes_still (g.D.Disk.past c.self.inside.disk))
+
+pub returns-in-Some-clause-stands : goal.returns-in-Some-clause-stands
+returns-in-Some-clause-stands g c first stands = stands
+
+pub returns-then-due-clause-stands : goal.returns-then-due-clause-stands
+returns-then-due-clause-stands g c =
+    let lists = g.C.Chronicle.lists in
+    let t = c.flush.new.self in
+    subst (λ v. (first : ℕ) → IfSome (lists v.chronicle) (StandsFrom v.config first v.file v.end) → IfSome (lists t.chronicle) (StandsFrom t.config first t.file t.end)) c.self.view_is c.flush.ensures.stands
+
+pub returns-clause-stands : goal.returns-clause-stands
+returns-clause-stands g c =
+    let e = c.self.inside in
+    let lists = g.C.Chronicle.lists in
+    subst (λ v. (first : ℕ) → IfSome (lists v.chronicle) (StandsFrom v.config first v.file v.end) → IfSome (lists e.chronicle) (StandsFrom e.config first e.tail.file.id (end_of_tail e.tail))) c.self.view_is (λ first stands. stands)
