@@ -30,7 +30,8 @@ const HEADER_LEN: u64 = 16;
 
 /// Loads a directory: its data files, all their records, and what they mean.
 ///
-/// It only lists the directory and reads its data files, each once.
+/// It lists the directory once, and then reads each data file of 16 to 268,435,456 bytes once, in the order
+/// of the names, until it finds a fault. It makes no other call.
 pub fn load<D: Disk>(alloc: Global, disk: &mut D, user_version: u32) -> Result<Loaded, LoadFault>
     ensures every { IfOk result (IsLoad user_version) }
     ensures base_in_order { IfOk result (λ l. AreInFiles l.files l.base) }
@@ -50,7 +51,8 @@ pub fn load<D: Disk>(alloc: Global, disk: &mut D, user_version: u32) -> Result<L
 
 /// The live records and the transactions in doubt of a directory, in less memory than `load` takes.
 ///
-/// It only lists the directory and reads its data files, each once.
+/// It lists the directory once, and then reads each data file of 16 to 268,435,456 bytes once, in the order
+/// of the names, until it finds a fault. It makes no other call.
 pub fn load_state<D: Disk>(
     alloc: Global,
     disk: &mut D,

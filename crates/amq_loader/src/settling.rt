@@ -10,7 +10,7 @@ ghost use Rattle.amq_loader.specs.Bases.{IsBase, AreThere, AreApart, Clears, Cle
 use crate::Loaded;
 use amq_io::{Disk, DiskFault, faults};
 
-/// Makes the data files that were loaded durable, one sync for each.
+/// Makes the data files that were loaded durable, with one sync for each, ascending by id, and no other call.
 ///
 /// A list that answered Ok must have come before, with only lists, reads and syncs behind it. Then each of
 /// the files has one content, also where earlier calls failed, and the directory is a base.
@@ -29,7 +29,8 @@ pub fn sync_files<D: Disk>(disk: &mut D, loaded: &Loaded) -> Result<(), DiskFaul
     Ok(())
 }
 
-/// Removes the leftovers that were loaded: compacted and temporary files that no control file lists.
+/// Removes the leftovers that were loaded, compacted and temporary files that no control file lists: one
+/// call for each, ascending by name.
 pub fn settle_directory<D: Disk>(disk: &mut D, loaded: &Loaded) -> Result<(), DiskFault>
     requires there { Told (D.past disk.old) (λ s. All (λ n. IsThere n s) loaded.now.leftovers) }
     requires apart { Told (D.past disk.old) (λ _. AreApart loaded.now.leftovers) }

@@ -18,7 +18,7 @@ pub returns-then-not-is_data-clause-found : goal.returns-then-not-is_data-clause
 returns-then-not-is_data-clause-found g c =
     elim c.then-not-is_data.branch [
       | then-not-is_data-via-then-not-is_data w ↦ nothing_found c.args.user_version c.args.info.now (g.D.Disk.past c.args.disk.now) c.requires.listed (inl (sym c.is_data.ensures ∙ w.if-not-is_data.true))
-      | then-not-is_data-via-else-not-is_data+then-info-lt-HEADER_LEN w ↦ nothing_found c.args.user_version c.args.info.now (g.D.Disk.past c.args.disk.now) c.requires.listed (inr w.if-info-lt-HEADER_LEN.true)
+      | then-not-is_data-via-else-not-is_data+then-info-lt-HEADER_LEN w ↦ nothing_found c.args.user_version c.args.info.now (g.D.Disk.past c.args.disk.now) c.requires.listed (inr (omega (arith, w.if-info-lt-HEADER_LEN.true)))
     ]
 
 pub returns-then-not-is_data-clause-asks : goal.returns-then-not-is_data-clause-asks
@@ -29,7 +29,7 @@ returns-then-not-is_data-clause-only_asks g c = still Unchanged Unchanged (g.D.D
 
 pub returns-then-info-gt-MAX_LEN-clause-cause : goal.returns-then-info-gt-MAX_LEN-clause-cause
 returns-then-info-gt-MAX_LEN-clause-cause g c =
-    long_cause (Option Part) c.args.user_version c.args.info.now (g.D.Disk.past c.args.disk.now) c.too_long.result (g.D.Disk.faults c.args.disk.now) c.requires.listed (sym c.if-not-is_data.ensures) c.if-info-gt-MAX_LEN.true c.too_long.ensures
+    long_cause (Option Part) c.args.user_version c.args.info.now (g.D.Disk.past c.args.disk.now) c.too_long.result (g.D.Disk.faults c.args.disk.now) c.requires.listed (sym c.if-not-is_data.ensures) (omega (arith, c.if-info-gt-MAX_LEN.true)) c.too_long.ensures
 
 pub returns-then-info-gt-MAX_LEN-clause-asks : goal.returns-then-info-gt-MAX_LEN-clause-asks
 returns-then-info-gt-MAX_LEN-clause-asks g c = still_asks (g.D.Disk.past c.args.disk.now)
@@ -72,11 +72,11 @@ returns-then-not-is_data-clause-calls g c =
     nothing_read (Option Part) None name len (g.D.Disk.past c.args.disk.now)
     (elim c.then-not-is_data.branch [
       | then-not-is_data-via-then-not-is_data w ↦ not_read name len (inl (sym c.is_data.ensures ∙ w.if-not-is_data.true))
-      | then-not-is_data-via-else-not-is_data+then-info-lt-HEADER_LEN w ↦ not_read name len (inr (inl w.if-info-lt-HEADER_LEN.true))
+      | then-not-is_data-via-else-not-is_data+then-info-lt-HEADER_LEN w ↦ not_read name len (inr (inl (omega (arith, w.if-info-lt-HEADER_LEN.true))))
     ])
 
 pub returns-then-info-gt-MAX_LEN-clause-calls : goal.returns-then-info-gt-MAX_LEN-clause-calls
-returns-then-info-gt-MAX_LEN-clause-calls g c = long_unread (Option Part) c.args.info.now.name c.args.info.now.len c.too_long.result (g.D.Disk.past c.args.disk.now) c.if-info-gt-MAX_LEN.true c.too_long.ensures
+returns-then-info-gt-MAX_LEN-clause-calls g c = long_unread (Option Part) c.args.info.now.name c.args.info.now.len c.too_long.result (g.D.Disk.past c.args.disk.now) (omega (arith, c.if-info-gt-MAX_LEN.true)) c.too_long.ensures
 
 pub returns-in_err-bytes-clause-calls : goal.returns-in_err-bytes-clause-calls
 returns-in_err-bytes-clause-calls g c =
