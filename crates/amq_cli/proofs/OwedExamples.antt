@@ -1,7 +1,9 @@
 -- Receipts of a run that are owed, and receipts that aren't.
-use Rattle.std.proofs.Common.{◌≡◌, ◌∙◌, inl, inr, ℕ, true, false, List, [], ◌∷◌, ◌++◌, length, None, Some, refl, sym, ap, subst, true≢false, arith}
+use Rattle.std.proofs.Common.{◌≡◌, ◌∙◌, inl, inr, ℕ, true, false, List, [], ◌∷◌, ◌++◌, length, None, Some, refl, sym, ap, subst, true≢false, arith, zero, suc, map, take}
+use Rattle.std.proofs.lemmas.List.{length-append, length-map, length-take}
 use Rattle.amq_model.specs.declared.command.Command.TheVariants as c
 use Rattle.amq_model.specs.declared.command.Reply.TheVariants.{Appended, Durable}
+use Rattle.amq_model.specs.declared.script.Line.{Line}
 use Rattle.amq_model.specs.declared.script.Line.TheVariants as l
 use Rattle.amq_model.specs.declared.history.Answer.TheVariants.{Done}
 use Rattle.amq_model.specs.declared.history.Step.{Step}
@@ -78,6 +80,28 @@ flushed_by_a_command (inl (inl opening)) = omega (arith, opening)
 flushed_by_a_command (inl (inr (inl step))) = roomy step
 flushed_by_a_command (inl (inr (inr tick))) = owed_to_no_tick tick
 flushed_by_a_command (inr end) = omega (arith, end)
+
+-- the lines of a script without a tick, and with a receipt that no step needs
+abbrev plain : List Line
+plain = l.Plain add ∷ l.Plain (c.Delete 1) ∷ []
+
+pub flushed_without_need : HasOwed defaults plain steps (receipt 0 5 0 ∷ receipt 1 7 1 ∷ []) → ⊥
+flushed_without_need h = by h.owed.2.2 where
+  none : (k now : ℕ) (before : List Answered) (x : Answered) (behind : List Answered) → x.0 ≡ l.Tick now → map (λ y. y.0) (before ++ x ∷ behind) ≡ take k plain → ⊥
+  none zero now [] x behind tick is = absurd (let n : suc (length (map (λ (y : Answered). y.0) behind)) ≡ 0 = ap length is in omega (arith, n))
+  none (suc k) now [] x behind tick is = let e : x.0 ≡ l.Plain add = cc in let f : l.Tick now ≡ l.Plain add = sym tick ∙ e in cc
+  none zero now (y ∷ ys) x behind tick is = absurd (let n : suc (length (map (λ (y : Answered). y.0) (ys ++ x ∷ behind))) ≡ 0 = ap length is in omega (arith, n))
+  none (suc zero) now (y ∷ []) x behind tick is = absurd (let n : suc (suc (length (map (λ (y : Answered). y.0) behind))) ≡ 1 = ap length is in omega (arith, n))
+  none (suc (suc k)) now (y ∷ []) x behind tick is = let e : x.0 ≡ l.Plain (c.Delete 1) = cc in let f : l.Tick now ≡ l.Plain (c.Delete 1) = sym tick ∙ e in cc
+  none (suc k) now (y ∷ z ∷ zs) x behind tick is =
+      let n : suc (suc (length (map (λ (y : Answered). y.0) (zs ++ x ∷ behind)))) ≡ length (take (suc k) plain) = ap length is in
+      omega (arith, n, length-map (zs ++ x ∷ behind) (λ (y : Answered). y.0), length-append zs (x ∷ behind), length-take (suc k) plain)
+
+  by : IsOwed defaults h.answered steps 0 (receipt 1 7 1) → ⊥
+  by (inl (inl opening)) = omega (arith, opening)
+  by (inl (inr (inl step))) = roomy step
+  by (inl (inr (inr tick))) = none (length h.answered) tick.now tick.before (l.Tick tick.now, tick.answer) tick.behind refl (ap (map (λ (y : Answered). y.0)) (sym tick.is) ∙ h.are.front)
+  by (inr end) = omega (arith, end)
 
 -- ---- the opening
 

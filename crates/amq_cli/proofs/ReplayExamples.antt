@@ -12,7 +12,7 @@ use Rattle.amq_model.specs.declared.history.Answer.{Answer}
 use Rattle.amq_model.specs.declared.history.Answer.TheVariants.{Done}
 use Rattle.amq_model.specs.declared.history.Step.{Step}
 use Rattle.amq_engine.specs.declared.chronicle.Receipted.{Receipted}
-use Rattle.amq_cli.specs.Replay.{IsOld, IsTickCount, IsFlushCount, Answered, placed_at, reply_lines, IsTicked, IsReceipted, AreAnswered, HasEnded, all_commanded, line_of, IsLineAnswer}
+use Rattle.amq_cli.specs.Replay.{IsOld, IsTickCount, IsFlushCount, AreCounted, Answered, placed_at, reply_lines, IsTicked, IsReceipted, AreAnswered, HasEnded, all_commanded, line_of, IsLineAnswer}
 
 -- ---- the lines
 
@@ -126,6 +126,9 @@ counted_too_early (inl (same, later)) = omega (arith, same)
 counted_too_early (inr (inl opening, rest)) = omega (arith, opening)
 counted_too_early (inr (inr (inl before), rest)) = omega (arith, before)
 counted_too_early (inr (inr (inr (here, old)), rest)) = two_young old
+
+pub a_line_counted_too_early : AreCounted 3 0 receipts [] (appended add 0 ∷ durable 2 1 ∷ []) → ⊥
+a_line_counted_too_early h = counted_too_early h.1.0
 
 -- a flush behind the first append counts what the receipt before its step does
 abbrev flush : Answered
