@@ -1,9 +1,12 @@
 use crate::folder_disk::FolderDisk;
-use amq_io::{Disk, DiskError};
+use amq_cli::offline;
+use amq_io::{Disk, DiskError, MemorySink, MemorySource};
 use std::fs;
 use std::test::Fail;
 
 const FOLDER: &str = "amq_main_folder_disk";
+
+const LONG_FILE: &str = "amq_main_long_file";
 
 /// Files, with what a folder and a name of another form add, and the count of each call.
 #[test]
@@ -48,5 +51,29 @@ fn fails_where_nothing_is(rt: HostRuntime) -> Result<(), Fail> {
     assert_eq!(rt; disk.rename("a", "b"), Err(DiskError::Failed));
     assert_eq!(rt; disk.remove("a"), Err(DiskError::Failed));
     assert_eq!(rt; disk.moment(), 7);
+    Ok(())
+}
+
+/// A data file of 300,000,000 bytes, which takes no room on the disk, is refused by the length that the
+/// list tells: the list is the only call.
+#[test]
+fn refuses_a_long_file_unread(rt: HostRuntime) -> Result<(), Fail> {
+    let alloc = rt.alloc();
+    let _ = fs::remove_dir_all(&rt, LONG_FILE);
+    fs::create_dir(&rt, LONG_FILE)?;
+    let file = fs::File::create(&rt, "amq_main_long_file/activemq-data-1.amq")?;
+    file.set_len(300_000_000)?;
+    let disk = FolderDisk::at(&rt, LONG_FILE)?;
+    let mut source = MemorySource::new(Vec::new(alloc), 1, Vec::new(alloc));
+    let mut sink = MemorySink::new(alloc, 1, Vec::new(alloc));
+    let words = [LONG_FILE, "print"];
+    let (status, disk, _kept) = offline(alloc, &words, disk, &mut source, &mut sink);
+    let fault = format!(in alloc; "{status:?}")?;
+    assert_eq!(rt;
+        fault.as_str(),
+        "Directory { fault: TooLong { name: Name { text: \"activemq-data-1.amq\" }, len: 300000000 } }"
+    );
+    assert_eq!(rt; disk.moment(), 1);
+    fs::remove_dir_all(&rt, LONG_FILE)?;
     Ok(())
 }
