@@ -10,6 +10,7 @@ pub mod Loading
 pub mod Labelling
 pub mod ReplayExamples
 pub mod OwedExamples
+pub mod PrintExamples
 pub mod Recovering
 pub mod Beginning
 pub mod Digits

@@ -14,3 +14,4 @@ pub mod Asking
 pub mod InOrder
 mod Examples
 mod BaseExamples
+mod AskedExamples
