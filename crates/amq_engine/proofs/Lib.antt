@@ -19,6 +19,7 @@ pub mod Flushing
 pub mod Commanding
 pub mod Noting
 pub mod Spent
+pub mod Leaving
 pub mod Accepting
 pub mod Found
 pub mod Begun

@@ -386,9 +386,13 @@ moves e command = passes e.config.file_size e.end (record_len command)
 abbrev pub prepares : {D C : Type 0} → EngineOf D C → Command → Bool
 prepares e command = moves e command && is_nil e.free
 
+-- whether a command that is accepted writes out first what waits: it goes on to a further file or flushes, and something waits
+abbrev pub writes_first : {D C : Type 0} → EngineOf D C → Command → Bool
+writes_first e command = (moves e command || flushes e.config.buffer_size e.waiting command) && is_some e.since
+
 -- whether a command that is accepted makes a disk call
 abbrev pub asks_disk : {D C : Type 0} → EngineOf D C → Command → Bool
-asks_disk e command = ((moves e command || flushes e.config.buffer_size e.waiting command) && is_some e.since) || prepares e command
+asks_disk e command = writes_first e command || prepares e command
 
 -- ---- what calls leave
 

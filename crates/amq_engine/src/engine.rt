@@ -13,7 +13,7 @@ ghost use Rattle.amq_loader.specs.Loads.{IsStateOf, IsTidy};
 ghost use Rattle.amq_engine.specs.Directory.{IsJournal};
 ghost use Rattle.amq_engine.specs.Opening.{HasBase, AreRolledBack, AreFirstRollbacks, IsFilled, StandsFrom, HasOpenCause};
 ghost use Rattle.amq_engine.specs.Receipts.{IsCrashSafe, GoesOn, BeginsBySyncs};
-ghost use Rattle.amq_engine.specs.Engine.{Notes, IsCommandAnswer, IsCommandRefusal, IsChronicle, IsBlank, AreSpentAtLast, HasCause, IsFlushRefusal, closed_after, durable_after, fault_refusal, closed_by, receipted, IsReply, prepares, asks_disk, flushed, behind_command, BehindRefused, behind_tick, must_flush, at_clock};
+ghost use Rattle.amq_engine.specs.Engine.{Notes, IsCommandAnswer, IsCommandRefusal, IsChronicle, IsBlank, AreSpentAtLast, HasCause, IsFlushRefusal, closed_after, durable_after, fault_refusal, closed_by, receipted, IsReply, prepares, asks_disk, flushed, behind_command, BehindRefused, behind_tick, must_flush, at_clock, is_noted, writes_first};
 ghost use Rattle.amq_engine.specs.Owed.{AreOwedAtOpening};
 
 use crate::chronicle::Chronicle;
@@ -192,13 +192,14 @@ impl<D: Disk, C: Chronicle> Engine<D, C> {
         ensures idle { (asks_disk self.old command ≡ false) ⊎ IsSome self.old.closed → self.new.disk ≡ self.old.disk }
         ensures unasked { IfSome (C.lists self.old.chronicle) (λ l. IsSome (refusal l.base l.steps self.old.config command) → self.new.disk ≡ self.old.disk) }
         ensures spared { prepares self.old command ≡ true → 2 ^ 31 - 1 ≤ self.old.highest → self.new.disk ≡ self.old.disk }
-        ensures calls { D.moment self.new.disk ≤ D.moment self.old.disk + (if prepares self.old command then 6 else 2) }
+        ensures calls { D.moment self.new.disk ≤ D.moment self.old.disk + (if writes_first self.old command then 2 else 0) + (if prepares self.old command then 4 else 0) }
         ensures closed { (call : DiskCall) → (result ≡ Err (Refusal.Closed call)) ↔ (self.old.closed ≡ Some call) }
         ensures cause { HasCause result (D.faults self.old.disk) (D.faults self.new.disk) }
         ensures failed { closed_after result None ≡ None → (D.faults self.new.disk).1 ≡ (D.faults self.old.disk).1 }
         ensures later { (D.faults self.old.disk).0 ≤ (D.faults self.new.disk).0 }
         ensures stands { (first : ℕ) → IfSome (C.lists self.old.chronicle) (StandsFrom self.old.config first self.old.file self.old.end) → IfSome (C.lists self.new.chronicle) (StandsFrom self.new.config first self.new.file self.new.end) }
         ensures goes_on { GoesOn (D.past self.old.disk) (D.past self.new.disk) }
+        ensures tidy { is_noted result ≡ true → Told (D.past self.old.disk) IsTidy → Told (D.past self.new.disk) IsTidy }
         ensures chronicle { IfSome (C.lists self.new.chronicle) (IsChronicle (D.past self.new.disk) (D.moment self.new.disk) self.new.config self.new.appended self.new.durable) }
     {
         if let Some(fault) = self.closed {
@@ -262,13 +263,14 @@ impl<D: Disk, C: Chronicle> Engine<D, C> {
         ensures receipt { C.lists self.new.chronicle ≡ receipted (is_ok result && is_some self.old.since) self.old.appended (D.moment self.new.disk) (C.lists self.old.chronicle) }
         ensures idle { (self.old.since ≡ None) ⊎ IsSome self.old.closed → self.new.disk ≡ self.old.disk }
         ensures quiet { self.old.closed ≡ None → self.old.since ≡ None → is_ok result ≡ true }
-        ensures calls { D.moment self.new.disk ≤ D.moment self.old.disk + 2 }
+        ensures calls { D.moment self.new.disk ≤ D.moment self.old.disk + (if is_some self.old.since then 2 else 0) }
         ensures closed { (call : DiskCall) → (result ≡ Err (Refusal.Closed call)) ↔ (self.old.closed ≡ Some call) }
         ensures cause { HasCause result (D.faults self.old.disk) (D.faults self.new.disk) }
         ensures failed { closed_after result None ≡ None → (D.faults self.new.disk).1 ≡ (D.faults self.old.disk).1 }
         ensures later { (D.faults self.old.disk).0 ≤ (D.faults self.new.disk).0 }
         ensures stands { (first : ℕ) → IfSome (C.lists self.old.chronicle) (StandsFrom self.old.config first self.old.file self.old.end) → IfSome (C.lists self.new.chronicle) (StandsFrom self.new.config first self.new.file self.new.end) }
         ensures goes_on { GoesOn (D.past self.old.disk) (D.past self.new.disk) }
+        ensures tidy { OnOk result (Told (D.past self.old.disk) IsTidy → Told (D.past self.new.disk) IsTidy) }
         ensures chronicle { IfSome (C.lists self.new.chronicle) (IsChronicle (D.past self.new.disk) (D.moment self.new.disk) self.new.config self.new.appended self.new.durable) }
         ensures waits { IsSome self.old.since → self.old.durable < self.old.appended }
         ensures told { IfSome (C.lists self.old.chronicle) (IsChronicle (D.past self.old.disk) (D.moment self.old.disk) self.old.config self.old.appended self.old.durable) }
@@ -293,13 +295,14 @@ impl<D: Disk, C: Chronicle> Engine<D, C> {
         ensures receipt { C.lists self.new.chronicle ≡ receipted (is_ok result && must_flush (at_clock now self.old)) self.old.appended (D.moment self.new.disk) (C.lists self.old.chronicle) }
         ensures idle { (must_flush (at_clock now self.old) ≡ false) ⊎ IsSome self.old.closed → self.new.disk ≡ self.old.disk }
         ensures quiet { self.old.closed ≡ None → must_flush (at_clock now self.old) ≡ false → is_ok result ≡ true }
-        ensures calls { D.moment self.new.disk ≤ D.moment self.old.disk + 2 }
+        ensures calls { D.moment self.new.disk ≤ D.moment self.old.disk + (if is_some self.old.since then 2 else 0) }
         ensures closed { (call : DiskCall) → (result ≡ Err (Refusal.Closed call)) ↔ (self.old.closed ≡ Some call) }
         ensures cause { HasCause result (D.faults self.old.disk) (D.faults self.new.disk) }
         ensures failed { closed_after result None ≡ None → (D.faults self.new.disk).1 ≡ (D.faults self.old.disk).1 }
         ensures later { (D.faults self.old.disk).0 ≤ (D.faults self.new.disk).0 }
         ensures stands { (first : ℕ) → IfSome (C.lists self.old.chronicle) (StandsFrom self.old.config first self.old.file self.old.end) → IfSome (C.lists self.new.chronicle) (StandsFrom self.new.config first self.new.file self.new.end) }
         ensures goes_on { GoesOn (D.past self.old.disk) (D.past self.new.disk) }
+        ensures tidy { OnOk result (Told (D.past self.old.disk) IsTidy → Told (D.past self.new.disk) IsTidy) }
         ensures chronicle { IfSome (C.lists self.new.chronicle) (IsChronicle (D.past self.new.disk) (D.moment self.new.disk) self.new.config self.new.appended self.new.durable) }
     {
         if let Some(fault) = self.closed {
@@ -319,12 +322,13 @@ impl<D: Disk, C: Chronicle> Engine<D, C> {
         ensures receipt { C.lists result.1 ≡ receipted (is_ok result.2 && is_some self.since) self.appended (D.moment result.0) (C.lists self.chronicle) }
         ensures idle { (self.since ≡ None) ⊎ IsSome self.closed → result.0 ≡ self.disk }
         ensures quiet { self.closed ≡ None → self.since ≡ None → is_ok result.2 ≡ true }
-        ensures calls { D.moment result.0 ≤ D.moment self.disk + 2 }
+        ensures calls { D.moment result.0 ≤ D.moment self.disk + (if is_some self.since then 2 else 0) }
         ensures closed { (call : DiskCall) → (result.2 ≡ Err (Refusal.Closed call)) ↔ (self.closed ≡ Some call) }
         ensures cause { HasCause result.2 (D.faults self.disk) (D.faults result.0) }
         ensures failed { closed_after result.2 None ≡ None → (D.faults result.0).1 ≡ (D.faults self.disk).1 }
         ensures later { (D.faults self.disk).0 ≤ (D.faults result.0).0 }
         ensures goes_on { GoesOn (D.past self.disk) (D.past result.0) }
+        ensures tidy { OnOk result.2 (Told (D.past self.disk) IsTidy → Told (D.past result.0) IsTidy) }
         ensures content { OnOk result.2 (IfSome (C.lists result.1) (λ l. Told (D.past result.0) (IsJournal self.config.user_version l.base (history_of l.steps)))) }
         ensures chronicle { IfSome (C.lists result.1) (IsChronicle (D.past result.0) (D.moment result.0) self.config self.appended (durable_after result.2 self.durable)) }
         ensures waits { IsSome self.since → self.durable < self.appended }

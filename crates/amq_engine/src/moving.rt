@@ -84,7 +84,7 @@ pub fn go_on<D: Disk, C: Chronicle>(
     ensures room { C.receipt_room chronicle.old ≤ C.receipt_room chronicle.new + 1 }
     ensures idle { tail.old.buffer.since ≡ None → (pool.old.prepared ≡ [] → ⊥) → disk.new ≡ disk.old }
     ensures cause { HasFault result (D.faults disk.old) (D.faults disk.new) }
-    ensures calls { D.moment disk.new ≤ D.moment disk.old + (if is_nil pool.old.prepared then 6 else 2) }
+    ensures calls { D.moment disk.new ≤ D.moment disk.old + (if is_some tail.old.buffer.since then 2 else 0) + (if is_nil pool.old.prepared then 4 else 0) }
     ensures later { D.moment disk.old ≤ D.moment disk.new }
     ensures goes_on { GoesOn (D.past disk.old) (D.past disk.new) }
     ensures tidy { OnOk result (Told (D.past disk.old) IsTidy → Told (D.past disk.new) IsTidy) }
@@ -130,7 +130,7 @@ pub fn ready<D: Disk, C: Chronicle>(
     ensures room { C.receipt_room chronicle.old ≤ C.receipt_room chronicle.new + 1 }
     ensures idle { (moves || flushes tail.old.buffer.capacity (length tail.old.buffer.bytes) command.now) && is_some tail.old.buffer.since ≡ false → moves && is_nil pool.old.prepared ≡ false → disk.new ≡ disk.old }
     ensures cause { HasFault result (D.faults disk.old) (D.faults disk.new) }
-    ensures calls { D.moment disk.new ≤ D.moment disk.old + (if moves && is_nil pool.old.prepared then 6 else 2) }
+    ensures calls { D.moment disk.new ≤ D.moment disk.old + (if (moves || flushes tail.old.buffer.capacity (length tail.old.buffer.bytes) command.now) && is_some tail.old.buffer.since then 2 else 0) + (if moves && is_nil pool.old.prepared then 4 else 0) }
     ensures later { D.moment disk.old ≤ D.moment disk.new }
     ensures goes_on { GoesOn (D.past disk.old) (D.past disk.new) }
     ensures tidy { OnOk result (Told (D.past disk.old) IsTidy → Told (D.past disk.new) IsTidy) }

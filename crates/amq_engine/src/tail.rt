@@ -1,5 +1,5 @@
 //! The end of the file in use: the records that wait in the buffer, and writing them out.
-ghost use Rattle.std.specs.Prelude.{◌≡◌, ◌⊎◌, ◌+◌, ◌-◌, ◌^◌, ◌<◌, ◌≤◌, ℕ, Bool, false, true, [], length, ◌&&◌, is_ok, is_some, option_map, None, IfSome, OnOk, OnErr};
+ghost use Rattle.std.specs.Prelude.{◌≡◌, ◌⊎◌, ◌+◌, ◌-◌, ◌^◌, ◌<◌, ◌≤◌, ℕ, Bool, false, true, [], length, ◌&&◌, is_ok, is_some, if◌then◌else◌, option_map, None, IfSome, OnOk, OnErr};
 ghost use Rattle.amq_model.specs.declared.config.Config.{Config};
 ghost use Rattle.amq_model.specs.RecordAt.{len_of};
 ghost use Rattle.amq_model.specs.Calls.{counted};
@@ -61,7 +61,7 @@ pub fn write_out<D: Disk, C: Chronicle>(
     ensures later { D.moment disk.old ≤ D.moment disk.new }
     ensures goes_on { GoesOn (D.past disk.old) (D.past disk.new) }
     ensures tidy { OnOk result (Told (D.past disk.old) IsTidy → Told (D.past disk.new) IsTidy) }
-    ensures calls { D.moment disk.new ≤ D.moment disk.old + 2 }
+    ensures calls { D.moment disk.new ≤ D.moment disk.old + (if is_some tail.old.buffer.since then 2 else 0) }
 {
     if tail.buffer.is_empty() {
         return Ok(());

@@ -1,5 +1,6 @@
 use Rattle.std.proofs.Common.{◌≡◌, sym, ap, subst, ◌∙◌}
-use Rattle.std.specs.Prelude.{IfSome}
+use Rattle.std.specs.Prelude.{IfSome, OnOk}
+use Rattle.amq_loader.specs.Loads.{IsTidy}
 use Rattle.amq_tx.specs.Tables.{state_of}
 use Rattle.amq_model.specs.declared.config.Config.{Config}
 use Rattle.amq_model.specs.Answers.{history_of}
@@ -23,3 +24,6 @@ returns-clause-content g c =
 
 pub returns-clause-goes_on : goal.returns-clause-goes_on
 returns-clause-goes_on g c = subst (λ d. GoesOn (g.D.Disk.past c.args.self.disk) (g.D.Disk.past d)) (sym (ap (λ v. v.disk) c.self.view_is)) c.flush-outcome.ensures.goes_on
+
+pub returns-clause-tidy : goal.returns-clause-tidy
+returns-clause-tidy g c = subst (λ d. OnOk c.flush-outcome.result (Told (g.D.Disk.past c.args.self.disk) IsTidy → Told (g.D.Disk.past d) IsTidy)) (sym (ap (λ v. v.disk) c.self.view_is)) c.flush-outcome.ensures.tidy

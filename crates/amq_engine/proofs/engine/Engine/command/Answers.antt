@@ -17,7 +17,7 @@ use Rattle.amq_pool.specs.Pools.{PoolOf, ids_of}
 use Rattle.amq_engine.specs.declared.tail.Tail.{Tail}
 use Rattle.amq_engine.specs.Lists.{Lists, with_step, steps_in}
 use Rattle.amq_engine.specs.Receipts.{GoesOn}
-use Rattle.amq_engine.specs.Engine.{IsChronicle, opened, IsSound, IsValid, Parts, IsReply, Notes, receipted, flushes, passes, spent, end_of_tail, readied, pool_readied, with_put, reply_of, placed_behind, fault_refusal, refused, record_len, prepares, is_nil}
+use Rattle.amq_engine.specs.Engine.{IsChronicle, opened, IsSound, IsValid, Parts, IsReply, Notes, receipted, flushes, passes, spent, end_of_tail, readied, pool_readied, with_put, reply_of, placed_behind, fault_refusal, refused, record_len, prepares, writes_first, is_nil}
 use Rattle.amq_engine.proofs.Sound.{sound_there, sound_within}
 use Rattle.amq_engine.proofs.Flushing.{written_durable, seen}
 use Rattle.amq_engine.proofs.Accepting.{written_first, reply_is, seen_accepted, values_of, not_closed}
@@ -29,6 +29,9 @@ use Rattle.amq_engine.proofs.GoingOn.{goes_still}
 use Rattle.amq_engine.proofs.Places.{stands_same, stands_bare, stands_put, failed_end}
 use Rattle.amq_engine.proofs.Rollbacks.{same_steps, steps_failed}
 use Rattle.amq_engine.specs.Opening.{StandsFrom}
+use Rattle.amq_model.specs.Leaves.{Told}
+use Rattle.amq_loader.specs.Loads.{IsTidy}
+use Rattle.amq_engine.proofs.Leaving.{writes_by, fault_unnoted}
 use Rattle.amq_engine.proofs.engine.Engine.command.Goals as goal
 
 pub returns-in-Some-clause-chronicle : goal.returns-in-Some-clause-chronicle
@@ -392,8 +395,12 @@ returns-in-Err-ready-clause-calls g c =
     c.passes-moves.ensures ∙ ap (λ (n : ℕ). passes e.config.file_size n (option_map len_of c.in-Ok.rec)) ends ∙ ap (passes e.config.file_size (end_of_tail e.tail)) c.in-Ok.ensures.length in
     let asks : (c.passes-moves.result && is_nil e.pool.prepared) ≡ prepares c.args.self.now c.args.command =
     ap (λ (m : Bool). m && is_nil e.pool.prepared) moves ∙ ap (λ (k : Bool). passes e.config.file_size (end_of_tail e.tail) (record_len c.args.command) && k) (sym (is_nil_ids e.pool.prepared)) ∙ ap (λ v. prepares v c.args.command) c.self.view_is in
-    subst (λ (b : Bool). g.D.Disk.moment c.ready.new.disk ≤ g.D.Disk.moment c.args.self.now.disk + cond b 6 2) asks
-    (subst (λ v. g.D.Disk.moment c.ready.new.disk ≤ g.D.Disk.moment v.disk + cond (c.passes-moves.result && is_nil e.pool.prepared) 6 2) c.self.view_is c.ready.ensures.calls)
+    let W : Bool → Bool = λ m. (m || flushes e.tail.buffer.capacity (length e.tail.buffer.bytes) c.args.command) && is_some e.tail.buffer.since in
+    let writes : W c.passes-moves.result ≡ writes_first c.args.self.now c.args.command =
+    ap W moves ∙ writes_by c.args.self.now c.args.command e.config.file_size (end_of_tail e.tail) e.tail.buffer.capacity (length e.tail.buffer.bytes) e.tail.buffer.since (sym (ap (λ v. v.config.file_size) c.self.view_is)) (sym (ap (λ v. v.end) c.self.view_is)) (sym (ap (λ v. v.config.buffer_size) c.self.view_is) ∙ sym c.self.invariant.sound.parts.capacity) (sym (ap (λ v. v.waiting) c.self.view_is)) (sym (ap (λ v. v.since) c.self.view_is)) in
+    subst (λ (b : Bool). g.D.Disk.moment c.ready.new.disk ≤ g.D.Disk.moment c.args.self.now.disk + cond b 2 0 + cond (prepares c.args.self.now c.args.command) 4 0) writes
+    (subst (λ (b : Bool). g.D.Disk.moment c.ready.new.disk ≤ g.D.Disk.moment c.args.self.now.disk + cond (W c.passes-moves.result) 2 0 + cond b 4 0) asks
+    (subst (λ v. g.D.Disk.moment c.ready.new.disk ≤ g.D.Disk.moment v.disk + cond (W c.passes-moves.result) 2 0 + cond (c.passes-moves.result && is_nil e.pool.prepared) 4 0) c.self.view_is c.ready.ensures.calls))
 
 pub returns-clause-spared : goal.returns-clause-spared
 returns-clause-spared g c prepared top =
@@ -417,8 +424,12 @@ returns-clause-calls g c =
     c.passes-moves.ensures ∙ ap (λ (n : ℕ). passes e.config.file_size n (option_map len_of c.in-Ok.rec)) ends ∙ ap (passes e.config.file_size (end_of_tail e.tail)) c.in-Ok.ensures.length in
     let asks : (c.passes-moves.result && is_nil e.pool.prepared) ≡ prepares c.args.self.now c.args.command =
     ap (λ (m : Bool). m && is_nil e.pool.prepared) moves ∙ ap (λ (k : Bool). passes e.config.file_size (end_of_tail e.tail) (record_len c.args.command) && k) (sym (is_nil_ids e.pool.prepared)) ∙ ap (λ v. prepares v c.args.command) c.self.view_is in
-    subst (λ (b : Bool). g.D.Disk.moment c.ready.new.disk ≤ g.D.Disk.moment c.args.self.now.disk + cond b 6 2) asks
-    (subst (λ v. g.D.Disk.moment c.ready.new.disk ≤ g.D.Disk.moment v.disk + cond (c.passes-moves.result && is_nil e.pool.prepared) 6 2) c.self.view_is c.ready.ensures.calls)
+    let W : Bool → Bool = λ m. (m || flushes e.tail.buffer.capacity (length e.tail.buffer.bytes) c.args.command) && is_some e.tail.buffer.since in
+    let writes : W c.passes-moves.result ≡ writes_first c.args.self.now c.args.command =
+    ap W moves ∙ writes_by c.args.self.now c.args.command e.config.file_size (end_of_tail e.tail) e.tail.buffer.capacity (length e.tail.buffer.bytes) e.tail.buffer.since (sym (ap (λ v. v.config.file_size) c.self.view_is)) (sym (ap (λ v. v.end) c.self.view_is)) (sym (ap (λ v. v.config.buffer_size) c.self.view_is) ∙ sym c.self.invariant.sound.parts.capacity) (sym (ap (λ v. v.waiting) c.self.view_is)) (sym (ap (λ v. v.since) c.self.view_is)) in
+    subst (λ (b : Bool). g.D.Disk.moment c.ready.new.disk ≤ g.D.Disk.moment c.args.self.now.disk + cond b 2 0 + cond (prepares c.args.self.now c.args.command) 4 0) writes
+    (subst (λ (b : Bool). g.D.Disk.moment c.ready.new.disk ≤ g.D.Disk.moment c.args.self.now.disk + cond (W c.passes-moves.result) 2 0 + cond b 4 0) asks
+    (subst (λ v. g.D.Disk.moment c.ready.new.disk ≤ g.D.Disk.moment v.disk + cond (W c.passes-moves.result) 2 0 + cond (c.passes-moves.result && is_nil e.pool.prepared) 4 0) c.self.view_is c.ready.ensures.calls))
 
 pub returns-in-Err-ready-clause-unasked : goal.returns-in-Err-ready-clause-unasked
 returns-in-Err-ready-clause-unasked g c =
@@ -510,3 +521,18 @@ returns-clause-stands g c =
     (λ first stands. stands_put e.config first (state_of e.table) e.pool e.tail c.ready.new.tail t c.self.invariant.sound.parts c.passes-moves.result _ 0 c.numbered-rec.result _ (lists c.ready.new.chronicle) (lists c.step-2.new.self) (moves ∙ ap (passes e.config.file_size (end_of_tail e.tail)) long)
         c.in_default-ready.ensures.ok c.put_record-reply.ensures.tail c.put_record-reply.ensures.placed c.step-2.ensures.noted
         (stands_same e.config first e.tail.file.id (end_of_tail e.tail) e.tail.file.id (end_of_tail e.tail) (lists e.chronicle) (lists c.ready.new.chronicle) same refl refl stands))
+
+pub returns-in-Some-clause-tidy : goal.returns-in-Some-clause-tidy
+returns-in-Some-clause-tidy g c noted tidy = tidy
+
+pub returns-in-Err-clause-tidy : goal.returns-in-Err-clause-tidy
+returns-in-Err-clause-tidy g c noted = subst (λ v. Told (g.D.Disk.past v.disk) IsTidy → Told (g.D.Disk.past c.self.inside.disk) IsTidy) c.self.view_is (λ tidy. tidy)
+
+pub returns-in-Some-refusal_of-clause-tidy : goal.returns-in-Some-refusal_of-clause-tidy
+returns-in-Some-refusal_of-clause-tidy g c noted = subst (λ v. Told (g.D.Disk.past v.disk) IsTidy → Told (g.D.Disk.past c.self.inside.disk) IsTidy) c.self.view_is (λ tidy. tidy)
+
+pub returns-in-Err-ready-clause-tidy : goal.returns-in-Err-ready-clause-tidy
+returns-in-Err-ready-clause-tidy g c noted = absurd (fault_unnoted c.in-Err-ready.fault c.close_after.result c.close_after.ensures.refusal noted)
+
+pub returns-clause-tidy : goal.returns-clause-tidy
+returns-clause-tidy g c noted = subst (λ v. Told (g.D.Disk.past v.disk) IsTidy → Told (g.D.Disk.past c.ready.new.disk) IsTidy) c.self.view_is c.in_default-ready.ensures.tidy

@@ -3,6 +3,8 @@ use Rattle.std.specs.Prelude.{IfSome, IsSome}
 use Rattle.amq_tx.specs.Tables.{state_of}
 use Rattle.amq_engine.specs.Receipts.{GoesOn}
 use Rattle.amq_engine.specs.Engine.{opened, IsChronicle, end_of_tail}
+use Rattle.amq_model.specs.Leaves.{Told}
+use Rattle.amq_loader.specs.Loads.{IsTidy}
 use Rattle.amq_engine.proofs.Sound.{sound_there, sound_within}
 use Rattle.amq_engine.proofs.Flushing.{written_durable, seen_flushed}
 use Rattle.amq_engine.proofs.Commanding.{valid_chronicle}
@@ -123,3 +125,9 @@ returns-in-Err-clause-stands g c =
     let is : t ≡ e.tail = c.in-Err.ensures.same in
     subst (λ v. (first : ℕ) → IfSome (lists v.chronicle) (StandsFrom v.config first v.file v.end) → IfSome (lists c.write_out.new.chronicle) (StandsFrom e.config first t.file.id (end_of_tail t))) c.self.view_is
     (λ first stands. stands_same e.config first e.tail.file.id (end_of_tail e.tail) t.file.id (end_of_tail t) (lists e.chronicle) (lists c.write_out.new.chronicle) (same_steps _ e.tail.appended _ (lists e.chronicle) (lists c.write_out.new.chronicle) c.write_out.ensures.receipt) (ap (λ x. x.file.id) is) (ap end_of_tail is) stands)
+
+pub returns-in-Some-clause-tidy : goal.returns-in-Some-clause-tidy
+returns-in-Some-clause-tidy g c = tt
+
+pub returns-in-Ok-clause-tidy : goal.returns-in-Ok-clause-tidy
+returns-in-Ok-clause-tidy g c = subst (λ v. Told (g.D.Disk.past v.disk) IsTidy → Told (g.D.Disk.past c.write_out.new.disk) IsTidy) c.self.view_is c.in-Ok.ensures.tidy

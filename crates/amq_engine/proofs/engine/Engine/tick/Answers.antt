@@ -1,9 +1,11 @@
 use Rattle.std.proofs.Common.{◌≡◌, subst, ℕ}
-use Rattle.std.specs.Prelude.{IfSome, ◌↔◌, Some, Err}
+use Rattle.std.specs.Prelude.{IfSome, ◌↔◌, Some, Err, OnOk}
 use Rattle.amq_tx.specs.Tables.{state_of}
 use Rattle.amq_model.specs.declared.refusal.Refusal.TheVariants.{Closed}
 use Rattle.amq_engine.specs.Receipts.{GoesOn}
 use Rattle.amq_engine.specs.Engine.{IsChronicle, end_of_tail}
+use Rattle.amq_model.specs.Leaves.{Told}
+use Rattle.amq_loader.specs.Loads.{IsTidy}
 use Rattle.amq_engine.proofs.Commanding.{valid_chronicle}
 use Rattle.amq_engine.proofs.GoingOn.{goes_still}
 use Rattle.amq_engine.specs.Opening.{StandsFrom}
@@ -46,3 +48,9 @@ returns-clause-stands g c =
     let e = c.self.inside in
     let lists = g.C.Chronicle.lists in
     subst (λ v. (first : ℕ) → IfSome (lists v.chronicle) (StandsFrom v.config first v.file v.end) → IfSome (lists e.chronicle) (StandsFrom e.config first e.tail.file.id (end_of_tail e.tail))) c.self.view_is (λ first stands. stands)
+
+pub returns-then-due-clause-tidy : goal.returns-then-due-clause-tidy
+returns-then-due-clause-tidy g c = subst (λ v. OnOk c.flush.result (Told (g.D.Disk.past v.disk) IsTidy → Told (g.D.Disk.past c.flush.new.self.disk) IsTidy)) c.self.view_is c.flush.ensures.tidy
+
+pub returns-clause-tidy : goal.returns-clause-tidy
+returns-clause-tidy g c = subst (λ v. Told (g.D.Disk.past v.disk) IsTidy → Told (g.D.Disk.past c.self.inside.disk) IsTidy) c.self.view_is (λ tidy. tidy)
