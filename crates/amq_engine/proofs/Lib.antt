@@ -20,6 +20,8 @@ pub mod Commanding
 pub mod Noting
 pub mod Spent
 pub mod Leaving
+pub mod DataFiles
+pub mod FilesTold
 pub mod Accepting
 pub mod Found
 pub mod Begun

@@ -6,3 +6,4 @@ pub mod Receipts
 pub mod Engine
 pub mod Opening
 pub mod Owed
+pub mod DataFiles

@@ -1,5 +1,5 @@
 //! The journal over one disk.
-ghost use Rattle.std.specs.Prelude.{◌≡◌, ◌⊎◌, ◌↔◌, ◌+◌, ◌<◌, ◌≤◌, ◌&&◌, ◌-◌, ◌^◌, ℕ, max, nat_lt, false, true, if◌then◌else◌, [], length, None, Some, is_ok, is_some, Ok, Err, IfSome, IsSome, IfOk, IfErr, OnOk, OnErr};
+ghost use Rattle.std.specs.Prelude.{◌≡◌, ◌⊎◌, ◌↔◌, ◌+◌, ◌<◌, ◌≤◌, ◌&&◌, ◌-◌, ◌^◌, ℕ, max, nat_lt, false, true, if◌then◌else◌, [], length, None, Some, is_ok, is_some, Ok, Err, IsTrue, IfSome, IsSome, IfOk, IfErr, OnOk, OnErr};
 ghost use Rattle.amq_model.specs.Configs.{IsConfig};
 ghost use Rattle.amq_model.specs.Calls.{counted};
 ghost use Rattle.amq_model.specs.Leaves.{Told};
@@ -12,6 +12,7 @@ ghost use Rattle.amq_buffer.specs.Buffered.{is_due};
 ghost use Rattle.amq_loader.specs.Loads.{IsStateOf, IsTidy};
 ghost use Rattle.amq_engine.specs.Directory.{IsJournal};
 ghost use Rattle.amq_engine.specs.Opening.{HasBase, AreRolledBack, AreFirstRollbacks, IsFilled, StandsFrom, HasOpenCause};
+ghost use Rattle.amq_engine.specs.DataFiles.{HasMade, HasSameFiles, HasId, LeavesAllBut, IsCommandFile};
 ghost use Rattle.amq_engine.specs.Receipts.{IsCrashSafe, GoesOn, BeginsBySyncs};
 ghost use Rattle.amq_engine.specs.Engine.{Notes, IsCommandAnswer, IsCommandRefusal, IsChronicle, IsBlank, AreSpentAtLast, HasCause, IsFlushRefusal, closed_after, durable_after, fault_refusal, closed_by, receipted, IsReply, prepares, asks_disk, flushed, behind_command, BehindRefused, behind_tick, must_flush, at_clock, is_noted, writes_first};
 ghost use Rattle.amq_engine.specs.Owed.{AreOwedAtOpening};
@@ -198,6 +199,9 @@ impl<D: Disk, C: Chronicle> Engine<D, C> {
         ensures failed { closed_after result None ≡ None → (D.faults self.new.disk).1 ≡ (D.faults self.old.disk).1 }
         ensures later { (D.faults self.old.disk).0 ≤ (D.faults self.new.disk).0 }
         ensures stands { (first : ℕ) → IfSome (C.lists self.old.chronicle) (StandsFrom self.old.config first self.old.file self.old.end) → IfSome (C.lists self.new.chronicle) (StandsFrom self.new.config first self.new.file self.new.end) }
+        ensures spares { LeavesAllBut (IsCommandFile self.old command) (D.past self.old.disk) (D.past self.new.disk) }
+        ensures files { OnOk result (Told (D.past self.old.disk) (λ o. Told (D.past self.new.disk) (HasMade self.old.config.file_size self.old.highest self.new.highest o))) }
+        ensures failed_files { OnErr result (Told (D.past self.old.disk) (λ o. Told (D.past self.new.disk) (λ s. HasSameFiles o s ⊎ (IsTrue (prepares self.old command) × HasMade self.old.config.file_size self.old.highest (self.old.highest + 1) o s)))) }
         ensures goes_on { GoesOn (D.past self.old.disk) (D.past self.new.disk) }
         ensures tidy { is_noted result ≡ true → Told (D.past self.old.disk) IsTidy → Told (D.past self.new.disk) IsTidy }
         ensures chronicle { IfSome (C.lists self.new.chronicle) (IsChronicle (D.past self.new.disk) (D.moment self.new.disk) self.new.config self.new.appended self.new.durable) }
@@ -269,6 +273,8 @@ impl<D: Disk, C: Chronicle> Engine<D, C> {
         ensures failed { closed_after result None ≡ None → (D.faults self.new.disk).1 ≡ (D.faults self.old.disk).1 }
         ensures later { (D.faults self.old.disk).0 ≤ (D.faults self.new.disk).0 }
         ensures stands { (first : ℕ) → IfSome (C.lists self.old.chronicle) (StandsFrom self.old.config first self.old.file self.old.end) → IfSome (C.lists self.new.chronicle) (StandsFrom self.new.config first self.new.file self.new.end) }
+        ensures spares { LeavesAllBut (HasId self.old.file) (D.past self.old.disk) (D.past self.new.disk) }
+        ensures files { Told (D.past self.old.disk) (λ o. Told (D.past self.new.disk) (HasSameFiles o)) }
         ensures goes_on { GoesOn (D.past self.old.disk) (D.past self.new.disk) }
         ensures tidy { OnOk result (Told (D.past self.old.disk) IsTidy → Told (D.past self.new.disk) IsTidy) }
         ensures chronicle { IfSome (C.lists self.new.chronicle) (IsChronicle (D.past self.new.disk) (D.moment self.new.disk) self.new.config self.new.appended self.new.durable) }
@@ -301,6 +307,8 @@ impl<D: Disk, C: Chronicle> Engine<D, C> {
         ensures failed { closed_after result None ≡ None → (D.faults self.new.disk).1 ≡ (D.faults self.old.disk).1 }
         ensures later { (D.faults self.old.disk).0 ≤ (D.faults self.new.disk).0 }
         ensures stands { (first : ℕ) → IfSome (C.lists self.old.chronicle) (StandsFrom self.old.config first self.old.file self.old.end) → IfSome (C.lists self.new.chronicle) (StandsFrom self.new.config first self.new.file self.new.end) }
+        ensures spares { LeavesAllBut (HasId self.old.file) (D.past self.old.disk) (D.past self.new.disk) }
+        ensures files { Told (D.past self.old.disk) (λ o. Told (D.past self.new.disk) (HasSameFiles o)) }
         ensures goes_on { GoesOn (D.past self.old.disk) (D.past self.new.disk) }
         ensures tidy { OnOk result (Told (D.past self.old.disk) IsTidy → Told (D.past self.new.disk) IsTidy) }
         ensures chronicle { IfSome (C.lists self.new.chronicle) (IsChronicle (D.past self.new.disk) (D.moment self.new.disk) self.new.config self.new.appended self.new.durable) }
@@ -327,6 +335,8 @@ impl<D: Disk, C: Chronicle> Engine<D, C> {
         ensures cause { HasCause result.2 (D.faults self.disk) (D.faults result.0) }
         ensures failed { closed_after result.2 None ≡ None → (D.faults result.0).1 ≡ (D.faults self.disk).1 }
         ensures later { (D.faults self.disk).0 ≤ (D.faults result.0).0 }
+        ensures spares { LeavesAllBut (HasId self.file) (D.past self.disk) (D.past result.0) }
+        ensures files { Told (D.past self.disk) (λ o. Told (D.past result.0) (HasSameFiles o)) }
         ensures goes_on { GoesOn (D.past self.disk) (D.past result.0) }
         ensures tidy { OnOk result.2 (Told (D.past self.disk) IsTidy → Told (D.past result.0) IsTidy) }
         ensures content { OnOk result.2 (IfSome (C.lists result.1) (λ l. Told (D.past result.0) (IsJournal self.config.user_version l.base (history_of l.steps)))) }

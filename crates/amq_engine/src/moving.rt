@@ -3,13 +3,14 @@ ghost use Rattle.std.specs.Prelude.{◌≡◌, ◌⊎◌, ◌+◌, ◌-◌, ◌^
 ghost use Rattle.amq_model.specs.declared.config.Config.{Config};
 ghost use Rattle.amq_model.specs.RecordAt.{len_of};
 ghost use Rattle.amq_model.specs.Calls.{counted};
-ghost use Rattle.amq_model.specs.Leaves.{Told, IsThere, IsWithin};
+ghost use Rattle.amq_model.specs.Leaves.{Told, IsThere, IsWithin, SparesAllBut};
 ghost use Rattle.amq_io.specs.Faults.{HasFault};
 ghost use Rattle.amq_tx.specs.State.{TxState};
 ghost use Rattle.amq_pool.specs.Pools.{with_next};
 ghost use Rattle.amq_loader.specs.Loads.{IsTidy};
 ghost use Rattle.amq_engine.specs.declared.tail.Tail.{Tail};
 ghost use Rattle.amq_engine.specs.Lists.{Lists};
+ghost use Rattle.amq_engine.specs.DataFiles.{IsPreparing, IsUsedOrNew, Worked, WorkedTo};
 ghost use Rattle.amq_engine.specs.Receipts.{GoesOn};
 ghost use Rattle.amq_engine.specs.Engine.{Stage, IsValid, end_of_tail, passes, flushes, record_len, written_out, next_file, without_next, gone_on, readied, pool_readied, receipted, Waits, Wrote, with_files, is_nil};
 
@@ -50,6 +51,8 @@ pub fn prepare<D: Disk>(disk: &mut D, pool: &mut Pool) -> Result<(), DiskFault>
     ensures calls { D.moment disk.new ≤ D.moment disk.old + 4 }
     ensures later { D.moment disk.old ≤ D.moment disk.new }
     ensures goes_on { GoesOn (D.past disk.old) (D.past disk.new) }
+    ensures works { OnOk result (Worked true (SparesAllBut (IsPreparing (pool.old.highest + 1) (pool.old.highest + 1))) pool.old.config.file_size pool.old.highest (pool.old.highest + 1) (D.past disk.old) (D.past disk.new)) }
+    ensures failed_works { OnErr result (Worked false (SparesAllBut (IsPreparing (pool.old.highest + 1) (pool.old.highest + 1))) pool.old.config.file_size pool.old.highest (pool.old.highest + 1) (D.past disk.old) (D.past disk.new)) }
     ensures tidy { OnOk result (Told (D.past disk.old) IsTidy → Told (D.past disk.new) IsTidy) }
 {
     match pool.prepare_step(disk) {
@@ -71,6 +74,7 @@ pub fn go_on<D: Disk, C: Chronicle>(
     requires within { Told (D.past disk.old) (IsWithin tail.old.file.name (end_of_tail tail.old)) }
     requires size { end_of_tail tail.old ≤ 268435456 }
     requires room { (tail.old.buffer.bytes ≡ [] → ⊥) → 1 ≤ C.receipt_room chronicle.old }
+    requires start { 16 ≤ tail.old.end }
     requires number { pool.old.prepared ≡ [] → pool.old.highest < 2 ^ 31 - 1 }
     ensures valid { (stage : Stage) (config : Config) (table : TxState)
         → IsValid stage (D.past disk.old) (D.moment disk.old) (C.lists chronicle.old) (C.receipt_room chronicle.old) config table pool.old tail.old
@@ -87,6 +91,8 @@ pub fn go_on<D: Disk, C: Chronicle>(
     ensures calls { D.moment disk.new ≤ D.moment disk.old + (if is_some tail.old.buffer.since then 2 else 0) + (if is_nil pool.old.prepared then 4 else 0) }
     ensures later { D.moment disk.old ≤ D.moment disk.new }
     ensures goes_on { GoesOn (D.past disk.old) (D.past disk.new) }
+    ensures works { OnOk result (Worked true (SparesAllBut (IsUsedOrNew tail.old.file.name (pool.old.highest + 1) (if is_nil pool.old.prepared then pool.old.highest + 1 else pool.old.highest))) pool.old.config.file_size pool.old.highest (if is_nil pool.old.prepared then pool.old.highest + 1 else pool.old.highest) (D.past disk.old) (D.past disk.new)) }
+    ensures failed_works { OnErr result (Worked false (SparesAllBut (IsUsedOrNew tail.old.file.name (pool.old.highest + 1) (if is_nil pool.old.prepared then pool.old.highest + 1 else pool.old.highest))) pool.old.config.file_size pool.old.highest (if is_nil pool.old.prepared then pool.old.highest + 1 else pool.old.highest) (D.past disk.old) (D.past disk.new)) }
     ensures tidy { OnOk result (Told (D.past disk.old) IsTidy → Told (D.past disk.new) IsTidy) }
 {
     write_out(disk, chronicle, tail)?;
@@ -117,6 +123,7 @@ pub fn ready<D: Disk, C: Chronicle>(
     requires within { Told (D.past disk.old) (IsWithin tail.old.file.name (end_of_tail tail.old)) }
     requires size { end_of_tail tail.old ≤ 268435456 }
     requires room { (tail.old.buffer.bytes ≡ [] → ⊥) → 1 ≤ C.receipt_room chronicle.old }
+    requires start { 16 ≤ tail.old.end }
     requires number { moves ≡ true → pool.old.prepared ≡ [] → pool.old.highest < 2 ^ 31 - 1 }
     ensures valid { (stage : Stage) (config : Config) (table : TxState)
         → IsValid stage (D.past disk.old) (D.moment disk.old) (C.lists chronicle.old) (C.receipt_room chronicle.old) config table pool.old tail.old
@@ -133,6 +140,8 @@ pub fn ready<D: Disk, C: Chronicle>(
     ensures calls { D.moment disk.new ≤ D.moment disk.old + (if (moves || flushes tail.old.buffer.capacity (length tail.old.buffer.bytes) command.now) && is_some tail.old.buffer.since then 2 else 0) + (if moves && is_nil pool.old.prepared then 4 else 0) }
     ensures later { D.moment disk.old ≤ D.moment disk.new }
     ensures goes_on { GoesOn (D.past disk.old) (D.past disk.new) }
+    ensures works { OnOk result (Worked true (SparesAllBut (IsUsedOrNew tail.old.file.name (pool.old.highest + 1) (if moves && is_nil pool.old.prepared then pool.old.highest + 1 else pool.old.highest))) pool.old.config.file_size pool.old.highest (if moves && is_nil pool.old.prepared then pool.old.highest + 1 else pool.old.highest) (D.past disk.old) (D.past disk.new)) }
+    ensures failed_works { OnErr result (Worked false (SparesAllBut (IsUsedOrNew tail.old.file.name (pool.old.highest + 1) (if moves && is_nil pool.old.prepared then pool.old.highest + 1 else pool.old.highest))) pool.old.config.file_size pool.old.highest (if moves && is_nil pool.old.prepared then pool.old.highest + 1 else pool.old.highest) (D.past disk.old) (D.past disk.new)) }
     ensures tidy { OnOk result (Told (D.past disk.old) IsTidy → Told (D.past disk.new) IsTidy) }
 {
     if moves {
@@ -163,6 +172,7 @@ pub fn fill_pool<D: Disk>(
     files: u64,
     min_files: u32,
 ) -> Result<(), DiskFault>
+    requires numbers { pool.old.highest ≤ 2 ^ 31 - 1 }
     ensures valid { (stage : Stage) (lists : Option Lists) (room : ℕ) (config : Config) (table : TxState) (tail : Tail)
         → IsValid stage (D.past disk.old) (D.moment disk.old) lists room config table pool.old tail
         → IsValid stage (D.past disk.new) (D.moment disk.new) lists room config table pool.new tail }
@@ -170,6 +180,8 @@ pub fn fill_pool<D: Disk>(
     ensures cause { HasFault result (D.faults disk.old) (D.faults disk.new) }
     ensures later { D.moment disk.old ≤ D.moment disk.new }
     ensures goes_on { GoesOn (D.past disk.old) (D.past disk.new) }
+    ensures works { OnOk result (WorkedTo true pool.old.config.file_size (pool.old.highest + 1) pool.old.highest pool.new.highest (D.past disk.old) (D.past disk.new)) }
+    ensures failed_works { OnErr result (WorkedTo false pool.old.config.file_size (pool.old.highest + 1) pool.old.highest pool.new.highest (D.past disk.old) (D.past disk.new)) }
     ensures tidy { OnOk result (Told (D.past disk.old) IsTidy → Told (D.past disk.new) IsTidy) }
 {
     let missing = u64::from(min_files).saturating_sub(files);

@@ -3,11 +3,12 @@ ghost use Rattle.std.specs.Prelude.{◌≡◌, ◌⊎◌, ◌+◌, ◌-◌, ◌^
 ghost use Rattle.amq_model.specs.declared.config.Config.{Config};
 ghost use Rattle.amq_model.specs.RecordAt.{len_of};
 ghost use Rattle.amq_model.specs.Calls.{counted};
-ghost use Rattle.amq_model.specs.Leaves.{Told, IsThere, IsWithin};
+ghost use Rattle.amq_model.specs.Leaves.{Told, IsThere, IsWithin, SparesAllBut};
 ghost use Rattle.amq_io.specs.Faults.{HasFault};
 ghost use Rattle.amq_tx.specs.State.{TxState};
 ghost use Rattle.amq_pool.specs.Pools.{PoolOf};
 ghost use Rattle.amq_loader.specs.Loads.{IsTidy};
+ghost use Rattle.amq_engine.specs.DataFiles.{Works};
 ghost use Rattle.amq_engine.specs.Receipts.{GoesOn};
 ghost use Rattle.amq_engine.specs.Engine.{Stage, IsValid, receipted, end_of_tail, written_out, with_put, reply_of, placed_behind};
 
@@ -46,6 +47,7 @@ pub fn write_out<D: Disk, C: Chronicle>(
     requires within { Told (D.past disk.old) (IsWithin tail.old.file.name (end_of_tail tail.old)) }
     requires size { end_of_tail tail.old ≤ 268435456 }
     requires room { (tail.old.buffer.bytes ≡ [] → ⊥) → 1 ≤ C.receipt_room chronicle.old }
+    requires start { 16 ≤ tail.old.end }
     ensures valid { (stage : Stage) (config : Config) (table : TxState) (pool : PoolOf)
         → IsValid stage (D.past disk.old) (D.moment disk.old) (C.lists chronicle.old) (C.receipt_room chronicle.old) config table pool tail.old
         → IsValid stage (D.past disk.new) (D.moment disk.new) (C.lists chronicle.new) (C.receipt_room chronicle.new) config table pool tail.new }
@@ -61,6 +63,7 @@ pub fn write_out<D: Disk, C: Chronicle>(
     ensures later { D.moment disk.old ≤ D.moment disk.new }
     ensures goes_on { GoesOn (D.past disk.old) (D.past disk.new) }
     ensures tidy { OnOk result (Told (D.past disk.old) IsTidy → Told (D.past disk.new) IsTidy) }
+    ensures works { (size first : ℕ) → Works (SparesAllBut (λ n. n ≡ tail.old.file.name)) size first first (D.past disk.old) (D.past disk.new) }
     ensures calls { D.moment disk.new ≤ D.moment disk.old + (if is_some tail.old.buffer.since then 2 else 0) }
 {
     if tail.buffer.is_empty() {

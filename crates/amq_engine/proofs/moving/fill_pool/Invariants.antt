@@ -1,4 +1,4 @@
-use Rattle.std.proofs.Common.{◌≡◌, ◌+◌, ◌-◌, ◌^◌, ◌≤◌, min, ℕ, Option}
+use Rattle.std.proofs.Common.{◌≡◌, ◌+◌, ◌-◌, ◌^◌, ◌≤◌, min, ℕ, true, Option}
 use Rattle.amq_model.specs.declared.config.Config.{Config}
 use Rattle.amq_tx.specs.State.{TxState}
 use Rattle.amq_engine.specs.declared.tail.Tail.{Tail}
@@ -6,6 +6,7 @@ use Rattle.amq_engine.specs.Lists.{Lists}
 use Rattle.amq_model.specs.Leaves.{Told}
 use Rattle.amq_io.specs.Cause.{NoneFailed}
 use Rattle.amq_loader.specs.Loads.{IsTidy}
+use Rattle.amq_engine.specs.DataFiles.{WorkedTo}
 use Rattle.amq_engine.specs.Receipts.{GoesOn}
 use Rattle.amq_engine.specs.Engine.{Stage, IsValid, with_files}
 use Rattle.amq_engine.proofs.moving.fill_pool.Given as goal
@@ -22,4 +23,5 @@ invariant-loop g l = record {
   later : g.D.Disk.moment l.fn.disk ≤ g.D.Disk.moment l.disk;
   tidy : Told (g.D.Disk.past l.fn.disk) IsTidy → Told (g.D.Disk.past l.disk) IsTidy;
   goes : GoesOn (g.D.Disk.past l.fn.disk) (g.D.Disk.past l.disk);
+  works : WorkedTo true l.fn.pool.config.file_size (l.fn.pool.highest + 1) l.fn.pool.highest l.pool.highest (g.D.Disk.past l.fn.disk) (g.D.Disk.past l.disk);
 }

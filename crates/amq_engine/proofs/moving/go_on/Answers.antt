@@ -1,6 +1,9 @@
-use Rattle.std.proofs.Common.{sym, subst, ap}
+use Rattle.std.proofs.Common.{◌≡◌, ◌+◌, ℕ, Bool, true, false, cond, List, length, refl, sym, subst, ap, ◌∙◌}
 use Rattle.amq_engine.specs.Receipts.{GoesOn}
-use Rattle.amq_engine.specs.Engine.{IsValid}
+use Rattle.amq_model.specs.Leaves.{SparesAllBut}
+use Rattle.amq_engine.specs.DataFiles.{IsPreparing, IsUsedOrNew, Works, Worked}
+use Rattle.amq_engine.proofs.DataFiles.{nil_files, on_err, nil_by, some_by, wrote_first, wrote_only, wrote_then}
+use Rattle.amq_engine.specs.Engine.{IsValid, is_nil}
 use Rattle.amq_engine.proofs.Going.{valid_on}
 use Rattle.amq_engine.proofs.GoingOn.{goes_still, goes_through}
 use Rattle.amq_model.specs.Leaves.{Told}
@@ -53,4 +56,42 @@ returns-clause-tidy g c tidy =
     elim c.if-free_count-eq0.branch [
       | then-free_count-eq0+in_ok-prepare w ↦ subst (λ d. Told (past d) IsTidy) (sym w.disk-is) (w.in_ok-prepare.ensures.tidy (c.in_ok-write_out.ensures.tidy tidy))
       | else-free_count-eq0 w ↦ subst (λ d. Told (past d) IsTidy) (sym w.disk-is) (c.in_ok-write_out.ensures.tidy tidy)
+    ]
+
+pub returns-in_err-write_out-clause-failed_works : goal.returns-in_err-write_out-clause-failed_works
+returns-in_err-write_out-clause-failed_works g c =
+    let past = g.D.Disk.past in
+    let p = c.args.pool.now in
+    let h = p.highest in
+    let used = c.args.tail.now.file.name in
+    on_err _ (Worked false (SparesAllBut (IsUsedOrNew used (h + 1) (cond (is_nil p.prepared) (h + 1) h))) p.config.file_size h (cond (is_nil p.prepared) (h + 1) h) (past c.args.disk.now) (past c.write_out.new.disk))
+    (wrote_first used p.config.file_size h (past c.args.disk.now) (past c.write_out.new.disk) (past c.write_out.new.disk) (c.write_out.ensures.works p.config.file_size h) (is_nil p.prepared))
+
+pub returns-in_err-prepare-clause-failed_works : goal.returns-in_err-prepare-clause-failed_works
+returns-in_err-prepare-clause-failed_works g c =
+    let past = g.D.Disk.past in
+    let p = c.args.pool.now in
+    let h = p.highest in
+    let used = c.args.tail.now.file.name in
+    let none : is_nil p.prepared ≡ true = nil_by p.prepared (sym c.free_count.ensures.value ∙ c.if-free_count-eq0.true) in
+    let R : Bool → Type 0 = λ k. Worked false (SparesAllBut (IsUsedOrNew used (h + 1) (cond k (h + 1) h))) p.config.file_size h (cond k (h + 1) h) (past c.args.disk.now) (past c.prepare.new.disk) in
+    on_err _ (R (is_nil p.prepared)) (subst R (sym none)
+    (wrote_then used p.config.file_size h (past c.args.disk.now) (past c.write_out.new.disk) (past c.prepare.new.disk) (c.write_out.ensures.works p.config.file_size h) false (c.requires.number (nil_files p.prepared none)) c.in_err-prepare.ensures.failed_works))
+
+pub returns-clause-works : goal.returns-clause-works
+returns-clause-works g c =
+    let past = g.D.Disk.past in
+    let p = c.args.pool.now in
+    let h = p.highest in
+    let used = c.args.tail.now.file.name in
+    let size = p.config.file_size in
+    let wrote = c.write_out.ensures.works size h in
+    let R : Bool → Type 0 = λ k. Worked true (SparesAllBut (IsUsedOrNew used (h + 1) (cond k (h + 1) h))) size h (cond k (h + 1) h) (past c.args.disk.now) (past c.if-free_count-eq0.disk) in
+    elim c.if-free_count-eq0.branch [
+      | then-free_count-eq0+in_ok-prepare w ↦ (let none : is_nil p.prepared ≡ true = nil_by p.prepared (sym c.free_count.ensures.value ∙ w.if-free_count-eq0.true) in
+          subst R (sym none) (subst (λ d. Worked true (SparesAllBut (IsUsedOrNew used (h + 1) (h + 1))) size h (h + 1) (past c.args.disk.now) (past d)) (sym w.disk-is)
+          (wrote_then used size h (past c.args.disk.now) (past c.write_out.new.disk) (past w.prepare.new.disk) wrote true (c.requires.number (nil_files p.prepared none)) w.in_ok-prepare.ensures.works)))
+      | else-free_count-eq0 w ↦ (let some : is_nil p.prepared ≡ false = some_by p.prepared (λ none. w.if-free_count-eq0.false (c.free_count.ensures.value ∙ none)) in
+          subst R (sym some) (subst (λ d. Worked true (SparesAllBut (IsUsedOrNew used (h + 1) h)) size h h (past c.args.disk.now) (past d)) (sym w.disk-is)
+          (wrote_only used size h (past c.args.disk.now) (past c.write_out.new.disk) (past c.write_out.new.disk) wrote true)))
     ]

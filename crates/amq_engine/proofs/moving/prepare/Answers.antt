@@ -1,9 +1,10 @@
-use Rattle.std.proofs.Common.{◌+◌, sym, subst}
-use Rattle.amq_pool.specs.Pools.{PoolOf, IsPool, Making}
+use Rattle.std.proofs.Common.{◌+◌, true, sym, subst}
+use Rattle.amq_pool.specs.Pools.{PoolOf, IsPool, Making, with_next}
 use Rattle.amq_engine.specs.Engine.{IsValid}
 use Rattle.amq_engine.proofs.Going.{valid_prepared, valid_unprepared}
 use Rattle.amq_engine.proofs.GoingOn.{goes_by}
 use Rattle.amq_engine.proofs.Tidying.{told_made}
+use Rattle.amq_engine.proofs.DataFiles.{made_worked, making_worked}
 use Rattle.amq_engine.proofs.moving.prepare.Goals as goal
 
 pub returns-in-Ok-clause-valid : goal.returns-in-Ok-clause-valid
@@ -47,3 +48,18 @@ returns-in-Err-NoMemory-clause-goes_on g c =
 
 pub returns-in-Ok-clause-tidy : goal.returns-in-Ok-clause-tidy
 returns-in-Ok-clause-tidy g c tidy = told_made c.args.pool.now.config c.args.pool.now.highest (g.D.Disk.past c.args.disk.now) (g.D.Disk.past c.prepare_step.new.disk) c.requires.number c.in-Ok.ensures.ok tidy
+
+pub returns-in-Ok-clause-works : goal.returns-in-Ok-clause-works
+returns-in-Ok-clause-works g c =
+    let is : IsPool (with_next c.args.pool.now) = subst IsPool c.in-Ok.ensures.prepared c.prepare_step.ensures.is in
+    made_worked c.args.pool.now.config c.args.pool.now.highest is.config c.requires.number (g.D.Disk.past c.args.disk.now) (g.D.Disk.past c.prepare_step.new.disk) true c.in-Ok.ensures.ok
+
+pub returns-in-Err-Disk-clause-failed_works : goal.returns-in-Err-Disk-clause-failed_works
+returns-in-Err-Disk-clause-failed_works g c =
+    let is : IsPool c.args.pool.now = subst IsPool c.in-Err-Disk.ensures.unchanged c.prepare_step.ensures.is in
+    making_worked c.args.pool.now.config c.args.pool.now.highest is.config c.requires.number (g.D.Disk.past c.args.disk.now) (g.D.Disk.past c.prepare_step.new.disk) c.prepare_step.ensures.crash
+
+pub returns-in-Err-NoMemory-clause-failed_works : goal.returns-in-Err-NoMemory-clause-failed_works
+returns-in-Err-NoMemory-clause-failed_works g c =
+    let is : IsPool c.args.pool.now = subst IsPool c.in-Err-NoMemory.ensures.unchanged c.prepare_step.ensures.is in
+    making_worked c.args.pool.now.config c.args.pool.now.highest is.config c.requires.number (g.D.Disk.past c.args.disk.now) (g.D.Disk.past c.prepare_step.new.disk) c.prepare_step.ensures.crash

@@ -21,6 +21,7 @@ use Rattle.amq_engine.proofs.Commanding.{when_ok, few_appends, count_fits, put_f
 use Rattle.amq_engine.proofs.RollingBack.{accepts_next, refused_spent, roll_spent, rolled_ends, valid_rolled}
 use Rattle.amq_engine.proofs.GoingOn.{goes_still}
 use Rattle.amq_engine.proofs.Owing.{owed_in_opening, owed_same, owed_failed, owed_rolled}
+use Rattle.amq_engine.proofs.FilesTold.{sound_start}
 use Rattle.amq_engine.proofs.Beginning.{starts_same, starts_failed, starts_step, starts_receipted}
 use Rattle.amq_engine.proofs.Rollbacks.{placed_is, same_steps, steps_failed, steps_more}
 use Rattle.amq_engine.proofs.rolling.roll_back_next.Goals as goal
@@ -233,3 +234,6 @@ returns-clause-owed g c all =
     owed_rolled e.config.now past moment (room c.make_room.new.chronicle) table e.pool.now e.tail.now stage c.passes-moves.result _ e.tx _ (lists c.make_room.new.chronicle) (lists c.ready.new.chronicle) (lists c.step.new.self) c.in_default.ensures.receipt moves refl tt c.step.ensures.noted
     (subst (λ (o : Option Lists). IfSome o (λ l. (first : ℕ) × EndsIn first (history_of l.steps) e.tail.now.file.id (end_of_tail e.tail.now))) (sym c.make_room.ensures.lists) c.requires.ended) v
     (owed_same e.config.now (lists e.chronicle.now) (lists c.make_room.new.chronicle) c.make_room.ensures.lists all)
+
+pub ready-requires-clause-start : goal.ready-requires-clause-start
+ready-requires-clause-start g c = sound_start c.args.config.now (state_of c.args.table.now) c.args.pool.now c.args.tail.now c.requires.valid.1.sound.parts

@@ -9,6 +9,7 @@ use Rattle.amq_engine.proofs.Sound.{sound_there, sound_within}
 use Rattle.amq_engine.specs.Opening.{rollbacks_behind}
 use Rattle.amq_engine.proofs.Started.{filled_by}
 use Rattle.amq_engine.proofs.Rollbacks.{same_steps, steps_so}
+use Rattle.amq_engine.proofs.FilesTold.{sound_start}
 use Rattle.amq_engine.proofs.GoingOn.{goes_through}
 use Rattle.amq_engine.proofs.Beginning.{starts_receipted}
 use Rattle.amq_engine.proofs.Noting.{both_true}
@@ -124,3 +125,13 @@ returns-in-Ok-clause-owed g c all =
     let v = c.in_ok-roll_back.ensures.ok c.requires.valid.0 c.requires.valid.2 c.requires.valid.1 in
     owed_at_end c.args.config.now (g.D.Disk.past c.roll_back.new.disk) (g.D.Disk.moment c.roll_back.new.disk) (g.C.Chronicle.receipt_room c.roll_back.new.chronicle) (state_of c.roll_back.new.table) c.roll_back.new.pool c.roll_back.new.tail _
     _ _ (lists c.roll_back.new.chronicle) (lists c.write_out.new.chronicle) (λ both. (both_true (is_ok c.write_out.result) (is_some c.roll_back.new.tail.buffer.since) both).1) c.write_out.ensures.receipt v (c.in_ok-roll_back.ensures.owed all)
+
+pub write_out-requires-clause-start : goal.write_out-requires-clause-start
+write_out-requires-clause-start g c =
+    let v = c.in_ok-roll_back.ensures.ok c.requires.valid.0 c.requires.valid.2 c.requires.valid.1 in
+    sound_start c.args.config.now (state_of c.roll_back.new.table) c.roll_back.new.pool c.roll_back.new.tail v.sound.parts
+
+pub fill_pool-requires : goal.fill_pool-requires
+fill_pool-requires g c =
+    let v = c.in_ok-roll_back.ensures.ok c.requires.valid.0 c.requires.valid.2 c.requires.valid.1 in
+    record { numbers = v.sound.parts.numbers }

@@ -5,6 +5,7 @@ use Rattle.amq_tx.specs.Tables.{state_of}
 use Rattle.amq_model.specs.declared.config.Config.{Config}
 use Rattle.amq_model.specs.Answers.{history_of}
 use Rattle.amq_model.specs.Leaves.{Told}
+use Rattle.amq_engine.specs.DataFiles.{HasSameFiles, HasId, LeavesAllBut}
 use Rattle.amq_engine.specs.Directory.{IsJournal}
 use Rattle.amq_engine.specs.Receipts.{GoesOn}
 use Rattle.amq_engine.proofs.Closed.{when_ok, sound_journal}
@@ -27,3 +28,9 @@ returns-clause-goes_on g c = subst (λ d. GoesOn (g.D.Disk.past c.args.self.disk
 
 pub returns-clause-tidy : goal.returns-clause-tidy
 returns-clause-tidy g c = subst (λ d. OnOk c.flush-outcome.result (Told (g.D.Disk.past c.args.self.disk) IsTidy → Told (g.D.Disk.past d) IsTidy)) (sym (ap (λ v. v.disk) c.self.view_is)) c.flush-outcome.ensures.tidy
+
+pub returns-clause-spares : goal.returns-clause-spares
+returns-clause-spares g c = subst (λ d. LeavesAllBut (HasId c.args.self.file) (g.D.Disk.past c.args.self.disk) (g.D.Disk.past d)) (sym (ap (λ v. v.disk) c.self.view_is)) c.flush-outcome.ensures.spares
+
+pub returns-clause-files : goal.returns-clause-files
+returns-clause-files g c = subst (λ d. Told (g.D.Disk.past c.args.self.disk) (λ o. Told (g.D.Disk.past d) (HasSameFiles o))) (sym (ap (λ v. v.disk) c.self.view_is)) c.flush-outcome.ensures.files

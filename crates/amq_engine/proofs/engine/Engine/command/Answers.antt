@@ -1,5 +1,5 @@
-use Rattle.std.proofs.Common.{◌≡◌, inl, inr, ⊎_elim, ◌+◌, ◌-◌, ◌^◌, ◌<◌, ◌≤◌, ℕ, Bool, true, cond, length, List, [], ◌++◌, Option, None, refl, sym, ap, subst, ◌∙◌, arith}
-use Rattle.std.specs.Prelude.{IfSome, IsSome, option_map, ◌||◌, ◌&&◌, is_some, nat_lt, Ok, Err}
+use Rattle.std.proofs.Common.{◌≡◌, ◌⊎◌, inl, inr, ⊎_elim, ◌+◌, ◌-◌, ◌^◌, ◌<◌, ◌≤◌, ℕ, Bool, true, cond, length, List, [], ◌++◌, Option, None, refl, sym, ap, subst, ◌∙◌, arith}
+use Rattle.std.specs.Prelude.{IfSome, IsSome, option_map, ◌||◌, ◌&&◌, is_some, nat_lt, Ok, Err, IsTrue}
 use Rattle.amq_model.specs.Calls.{counted}
 use Rattle.amq_model.specs.Answers.{record_of, history_of, refusal}
 use Rattle.amq_model.specs.Legal.{number_for, rolled_back}
@@ -29,7 +29,12 @@ use Rattle.amq_engine.proofs.GoingOn.{goes_still}
 use Rattle.amq_engine.proofs.Places.{stands_same, stands_bare, stands_put, failed_end}
 use Rattle.amq_engine.proofs.Rollbacks.{same_steps, steps_failed}
 use Rattle.amq_engine.specs.Opening.{StandsFrom}
-use Rattle.amq_model.specs.Leaves.{Told}
+use Rattle.amq_model.specs.Leaves.{Told, SparesAllBut}
+use Rattle.amq_model.specs.declared.config.Config.{Config}
+use Rattle.amq_model.specs.Files.{Files}
+use Rattle.amq_engine.specs.DataFiles.{HasMade, HasSameFiles, HasId, IsPreparing, IsUsedOrNew, LeavesAllBut, IsCommandFile}
+use Rattle.amq_engine.proofs.DataFiles.{worked_works}
+use Rattle.amq_engine.proofs.FilesTold.{sound_start, sound_used, leaves_told, still_alone, same_failed, touched_by, failed_told, readied_most}
 use Rattle.amq_loader.specs.Loads.{IsTidy}
 use Rattle.amq_engine.proofs.Leaving.{writes_by, fault_unnoted}
 use Rattle.amq_engine.proofs.engine.Engine.command.Goals as goal
@@ -536,3 +541,95 @@ returns-in-Err-ready-clause-tidy g c noted = absurd (fault_unnoted c.in-Err-read
 
 pub returns-clause-tidy : goal.returns-clause-tidy
 returns-clause-tidy g c noted = subst (λ v. Told (g.D.Disk.past v.disk) IsTidy → Told (g.D.Disk.past c.ready.new.disk) IsTidy) c.self.view_is c.in_default-ready.ensures.tidy
+
+pub ready-requires-clause-start : goal.ready-requires-clause-start
+ready-requires-clause-start g c =
+    let e = c.self.inside in
+    sound_start e.config (state_of e.table) e.pool e.tail c.self.invariant.sound.parts
+
+pub returns-in-Some-clause-spares : goal.returns-in-Some-clause-spares
+returns-in-Some-clause-spares g c = still_alone (IsCommandFile c.args.self.now c.args.command) (g.D.Disk.past c.args.self.now.disk)
+
+pub returns-in-Err-clause-spares : goal.returns-in-Err-clause-spares
+returns-in-Err-clause-spares g c = subst (λ d. LeavesAllBut (IsCommandFile c.args.self.now c.args.command) (g.D.Disk.past d) (g.D.Disk.past c.self.inside.disk)) (ap (λ v. v.disk) c.self.view_is) (still_alone (IsCommandFile c.args.self.now c.args.command) (g.D.Disk.past c.self.inside.disk))
+
+pub returns-in-Some-refusal_of-clause-spares : goal.returns-in-Some-refusal_of-clause-spares
+returns-in-Some-refusal_of-clause-spares g c = subst (λ d. LeavesAllBut (IsCommandFile c.args.self.now c.args.command) (g.D.Disk.past d) (g.D.Disk.past c.self.inside.disk)) (ap (λ v. v.disk) c.self.view_is) (still_alone (IsCommandFile c.args.self.now c.args.command) (g.D.Disk.past c.self.inside.disk))
+
+pub returns-in-Some-clause-failed_files : goal.returns-in-Some-clause-failed_files
+returns-in-Some-clause-failed_files g c = same_failed _ (g.D.Disk.past c.args.self.now.disk)
+
+pub returns-in-Err-clause-failed_files : goal.returns-in-Err-clause-failed_files
+returns-in-Err-clause-failed_files g c = subst (λ v. Told (g.D.Disk.past v.disk) (λ o. Told (g.D.Disk.past c.self.inside.disk) (λ s. HasSameFiles o s ⊎ (IsTrue (prepares v c.args.command) × HasMade v.config.file_size v.highest (v.highest + 1) o s)))) c.self.view_is (same_failed _ (g.D.Disk.past c.self.inside.disk))
+
+pub returns-in-Some-refusal_of-clause-failed_files : goal.returns-in-Some-refusal_of-clause-failed_files
+returns-in-Some-refusal_of-clause-failed_files g c = subst (λ v. Told (g.D.Disk.past v.disk) (λ o. Told (g.D.Disk.past c.self.inside.disk) (λ s. HasSameFiles o s ⊎ (IsTrue (prepares v c.args.command) × HasMade v.config.file_size v.highest (v.highest + 1) o s)))) c.self.view_is (same_failed _ (g.D.Disk.past c.self.inside.disk))
+
+pub returns-in-Err-ready-clause-spares : goal.returns-in-Err-ready-clause-spares
+returns-in-Err-ready-clause-spares g c =
+    let e = c.self.inside in
+    let past = g.D.Disk.past in
+    let table = state_of c.room_for.new.table in
+    let ends : e.tail.end + length c.bytes.result.now ≡ end_of_tail e.tail = ap (λ (l : List ℕ). e.tail.end + length l) c.bytes.ensures in
+    let moves : c.passes-moves.result ≡ passes e.config.file_size (end_of_tail e.tail) (record_len c.args.command) =
+    c.passes-moves.ensures ∙ ap (λ (n : ℕ). passes e.config.file_size n (option_map len_of c.in-Ok.rec)) ends ∙ ap (passes e.config.file_size (end_of_tail e.tail)) c.in-Ok.ensures.length in
+    let b = c.passes-moves.result && is_nil e.pool.prepared in
+    let asks : b ≡ prepares c.args.self.now c.args.command =
+    ap (λ (m : Bool). m && is_nil e.pool.prepared) moves ∙ ap (λ (k : Bool). passes e.config.file_size (end_of_tail e.tail) (record_len c.args.command) && k) (sym (is_nil_ids e.pool.prepared)) ∙ ap (λ v. prepares v c.args.command) c.self.view_is in
+    let h = e.pool.highest in
+    subst (λ v. LeavesAllBut (λ o n. HasId v.file o n ⊎ (IsTrue (prepares c.args.self.now c.args.command) × IsPreparing (v.highest + 1) (v.highest + 1) n)) (past v.disk) (past c.ready.new.disk)) c.self.view_is
+    (subst (λ (k : Bool). LeavesAllBut (λ o n. HasId e.tail.file.id o n ⊎ (IsTrue k × IsPreparing (h + 1) (h + 1) n)) (past e.disk) (past c.ready.new.disk)) asks
+    (leaves_told (IsUsedOrNew e.tail.file.name (h + 1) (cond b (h + 1) h)) (λ o n. HasId e.tail.file.id o n ⊎ (IsTrue b × IsPreparing (h + 1) (h + 1) n)) (past e.disk) (past c.ready.new.disk)
+    (touched_by e.tail.file.name e.tail.file.id h b (past e.disk) (sound_used (past e.disk) (g.C.Chronicle.lists e.chronicle) (g.C.Chronicle.receipt_room e.chronicle) e.config (state_of e.table) e.pool e.tail c.self.invariant.ranges c.self.invariant.sound)) c.in-Err-ready.ensures.failed_works.works.keeps))
+
+pub returns-clause-spares : goal.returns-clause-spares
+returns-clause-spares g c =
+    let e = c.self.inside in
+    let past = g.D.Disk.past in
+    let table = state_of c.room_for.new.table in
+    let ends : e.tail.end + length c.bytes.result.now ≡ end_of_tail e.tail = ap (λ (l : List ℕ). e.tail.end + length l) c.bytes.ensures in
+    let moves : c.passes-moves.result ≡ passes e.config.file_size (end_of_tail e.tail) (record_len c.args.command) =
+    c.passes-moves.ensures ∙ ap (λ (n : ℕ). passes e.config.file_size n (option_map len_of c.in-Ok.rec)) ends ∙ ap (passes e.config.file_size (end_of_tail e.tail)) c.in-Ok.ensures.length in
+    let b = c.passes-moves.result && is_nil e.pool.prepared in
+    let asks : b ≡ prepares c.args.self.now c.args.command =
+    ap (λ (m : Bool). m && is_nil e.pool.prepared) moves ∙ ap (λ (k : Bool). passes e.config.file_size (end_of_tail e.tail) (record_len c.args.command) && k) (sym (is_nil_ids e.pool.prepared)) ∙ ap (λ v. prepares v c.args.command) c.self.view_is in
+    let h = e.pool.highest in
+    subst (λ v. LeavesAllBut (λ o n. HasId v.file o n ⊎ (IsTrue (prepares c.args.self.now c.args.command) × IsPreparing (v.highest + 1) (v.highest + 1) n)) (past v.disk) (past c.ready.new.disk)) c.self.view_is
+    (subst (λ (k : Bool). LeavesAllBut (λ o n. HasId e.tail.file.id o n ⊎ (IsTrue k × IsPreparing (h + 1) (h + 1) n)) (past e.disk) (past c.ready.new.disk)) asks
+    (leaves_told (IsUsedOrNew e.tail.file.name (h + 1) (cond b (h + 1) h)) (λ o n. HasId e.tail.file.id o n ⊎ (IsTrue b × IsPreparing (h + 1) (h + 1) n)) (past e.disk) (past c.ready.new.disk)
+    (touched_by e.tail.file.name e.tail.file.id h b (past e.disk) (sound_used (past e.disk) (g.C.Chronicle.lists e.chronicle) (g.C.Chronicle.receipt_room e.chronicle) e.config (state_of e.table) e.pool e.tail c.self.invariant.ranges c.self.invariant.sound)) c.in_default-ready.ensures.works.works.keeps))
+
+pub returns-in-Err-ready-clause-failed_files : goal.returns-in-Err-ready-clause-failed_files
+returns-in-Err-ready-clause-failed_files g c =
+    let e = c.self.inside in
+    let past = g.D.Disk.past in
+    let table = state_of c.room_for.new.table in
+    let ends : e.tail.end + length c.bytes.result.now ≡ end_of_tail e.tail = ap (λ (l : List ℕ). e.tail.end + length l) c.bytes.ensures in
+    let moves : c.passes-moves.result ≡ passes e.config.file_size (end_of_tail e.tail) (record_len c.args.command) =
+    c.passes-moves.ensures ∙ ap (λ (n : ℕ). passes e.config.file_size n (option_map len_of c.in-Ok.rec)) ends ∙ ap (passes e.config.file_size (end_of_tail e.tail)) c.in-Ok.ensures.length in
+    let b = c.passes-moves.result && is_nil e.pool.prepared in
+    let asks : b ≡ prepares c.args.self.now c.args.command =
+    ap (λ (m : Bool). m && is_nil e.pool.prepared) moves ∙ ap (λ (k : Bool). passes e.config.file_size (end_of_tail e.tail) (record_len c.args.command) && k) (sym (is_nil_ids e.pool.prepared)) ∙ ap (λ v. prepares v c.args.command) c.self.view_is in
+    let h = e.pool.highest in
+    subst (λ v. Told (past v.disk) (λ o. Told (past c.ready.new.disk) (λ s. HasSameFiles o s ⊎ (IsTrue (prepares c.args.self.now c.args.command) × HasMade v.config.file_size v.highest (v.highest + 1) o s)))) c.self.view_is
+    (subst (λ (k : Bool). Told (past e.disk) (λ o. Told (past c.ready.new.disk) (λ s. HasSameFiles o s ⊎ (IsTrue k × HasMade e.config.file_size h (h + 1) o s)))) asks
+    (subst (λ (k : Config). Told (past e.disk) (λ o. Told (past c.ready.new.disk) (λ s. HasSameFiles o s ⊎ (IsTrue b × HasMade k.file_size h (h + 1) o s)))) c.self.invariant.sound.parts.same_config
+    (failed_told (SparesAllBut (IsUsedOrNew e.tail.file.name (h + 1) (cond b (h + 1) h))) e.pool.config.file_size h b (past e.disk) (past c.ready.new.disk) c.in-Err-ready.ensures.failed_works)))
+
+pub returns-clause-files : goal.returns-clause-files
+returns-clause-files g c =
+    let e = c.self.inside in
+    let past = g.D.Disk.past in
+    let table = state_of c.room_for.new.table in
+    let ends : e.tail.end + length c.bytes.result.now ≡ end_of_tail e.tail = ap (λ (l : List ℕ). e.tail.end + length l) c.bytes.ensures in
+    let moves : c.passes-moves.result ≡ passes e.config.file_size (end_of_tail e.tail) (record_len c.args.command) =
+    c.passes-moves.ensures ∙ ap (λ (n : ℕ). passes e.config.file_size n (option_map len_of c.in-Ok.rec)) ends ∙ ap (passes e.config.file_size (end_of_tail e.tail)) c.in-Ok.ensures.length in
+    let b = c.passes-moves.result && is_nil e.pool.prepared in
+    let asks : b ≡ prepares c.args.self.now c.args.command =
+    ap (λ (m : Bool). m && is_nil e.pool.prepared) moves ∙ ap (λ (k : Bool). passes e.config.file_size (end_of_tail e.tail) (record_len c.args.command) && k) (sym (is_nil_ids e.pool.prepared)) ∙ ap (λ v. prepares v c.args.command) c.self.view_is in
+    let h = e.pool.highest in
+    let most : cond b (h + 1) h ≡ c.ready.new.pool.highest = sym (ap (λ (p : PoolOf). p.highest) c.in_default-ready.ensures.pool ∙ readied_most c.passes-moves.result e.pool) in
+    let K : Files → Files → Type 0 = SparesAllBut (IsUsedOrNew e.tail.file.name (h + 1) (cond b (h + 1) h)) in
+    subst (λ v. Told (past v.disk) (λ o. Told (past c.ready.new.disk) (HasMade v.config.file_size v.highest c.ready.new.pool.highest o))) c.self.view_is
+    (subst (λ (k : Config). Told (past e.disk) (λ o. Told (past c.ready.new.disk) (HasMade k.file_size h c.ready.new.pool.highest o))) c.self.invariant.sound.parts.same_config
+    (subst (λ (n : ℕ). Told (past e.disk) (λ o. Told (past c.ready.new.disk) (HasMade e.pool.config.file_size h n o))) most (worked_works K e.pool.config.file_size h (cond b (h + 1) h) (past e.disk) (past c.ready.new.disk) c.in_default-ready.ensures.works).files))

@@ -1,9 +1,11 @@
-use Rattle.std.proofs.Common.{◌<◌, ap, subst, ◌∙◌, ℕ}
+use Rattle.std.proofs.Common.{◌<◌, ap, subst, ◌∙◌, ℕ, ◌≡◌}
 use Rattle.std.specs.Prelude.{IfSome, IsSome}
 use Rattle.amq_tx.specs.Tables.{state_of}
 use Rattle.amq_engine.specs.Receipts.{GoesOn}
 use Rattle.amq_engine.specs.Engine.{opened, IsChronicle, end_of_tail}
-use Rattle.amq_model.specs.Leaves.{Told}
+use Rattle.amq_model.specs.Leaves.{Told, SparesAllBut}
+use Rattle.amq_engine.specs.DataFiles.{HasSameFiles, HasId, LeavesAllBut}
+use Rattle.amq_engine.proofs.FilesTold.{sound_start, sound_used, used_only, leaves_told, works_same, same_told, still_alone}
 use Rattle.amq_loader.specs.Loads.{IsTidy}
 use Rattle.amq_engine.proofs.Sound.{sound_there, sound_within}
 use Rattle.amq_engine.proofs.Flushing.{written_durable, seen_flushed}
@@ -131,3 +133,40 @@ returns-in-Some-clause-tidy g c = tt
 
 pub returns-in-Ok-clause-tidy : goal.returns-in-Ok-clause-tidy
 returns-in-Ok-clause-tidy g c = subst (λ v. Told (g.D.Disk.past v.disk) IsTidy → Told (g.D.Disk.past c.write_out.new.disk) IsTidy) c.self.view_is c.in-Ok.ensures.tidy
+
+pub write_out-requires-clause-start : goal.write_out-requires-clause-start
+write_out-requires-clause-start g c =
+    let e = c.self.inside in
+    sound_start e.config (state_of e.table) e.pool e.tail c.self.invariant.sound.parts
+
+pub returns-in-Some-clause-spares : goal.returns-in-Some-clause-spares
+returns-in-Some-clause-spares g c = still_alone (HasId c.args.self.now.file) (g.D.Disk.past c.args.self.now.disk)
+
+pub returns-in-Ok-clause-spares : goal.returns-in-Ok-clause-spares
+returns-in-Ok-clause-spares g c =
+    let e = c.self.inside in
+    subst (λ v. LeavesAllBut (HasId v.file) (g.D.Disk.past v.disk) (g.D.Disk.past c.write_out.new.disk)) c.self.view_is
+    (leaves_told (λ n. n ≡ e.tail.file.name) (HasId e.tail.file.id) (g.D.Disk.past e.disk) (g.D.Disk.past c.write_out.new.disk)
+    (used_only e.tail.file.name e.tail.file.id (g.D.Disk.past e.disk) (sound_used (g.D.Disk.past e.disk) (g.C.Chronicle.lists e.chronicle) (g.C.Chronicle.receipt_room e.chronicle) e.config (state_of e.table) e.pool e.tail c.self.invariant.ranges c.self.invariant.sound)) (c.write_out.ensures.works 0 0).keeps)
+
+pub returns-in-Err-clause-spares : goal.returns-in-Err-clause-spares
+returns-in-Err-clause-spares g c =
+    let e = c.self.inside in
+    subst (λ v. LeavesAllBut (HasId v.file) (g.D.Disk.past v.disk) (g.D.Disk.past c.write_out.new.disk)) c.self.view_is
+    (leaves_told (λ n. n ≡ e.tail.file.name) (HasId e.tail.file.id) (g.D.Disk.past e.disk) (g.D.Disk.past c.write_out.new.disk)
+    (used_only e.tail.file.name e.tail.file.id (g.D.Disk.past e.disk) (sound_used (g.D.Disk.past e.disk) (g.C.Chronicle.lists e.chronicle) (g.C.Chronicle.receipt_room e.chronicle) e.config (state_of e.table) e.pool e.tail c.self.invariant.ranges c.self.invariant.sound)) (c.write_out.ensures.works 0 0).keeps)
+
+pub returns-in-Some-clause-files : goal.returns-in-Some-clause-files
+returns-in-Some-clause-files g c = same_told (g.D.Disk.past c.args.self.now.disk)
+
+pub returns-in-Ok-clause-files : goal.returns-in-Ok-clause-files
+returns-in-Ok-clause-files g c =
+    let e = c.self.inside in
+    subst (λ v. Told (g.D.Disk.past v.disk) (λ o. Told (g.D.Disk.past c.write_out.new.disk) (HasSameFiles o))) c.self.view_is
+    (works_same (SparesAllBut (λ n. n ≡ e.tail.file.name)) 0 0 (g.D.Disk.past e.disk) (g.D.Disk.past c.write_out.new.disk) (c.write_out.ensures.works 0 0))
+
+pub returns-in-Err-clause-files : goal.returns-in-Err-clause-files
+returns-in-Err-clause-files g c =
+    let e = c.self.inside in
+    subst (λ v. Told (g.D.Disk.past v.disk) (λ o. Told (g.D.Disk.past c.write_out.new.disk) (HasSameFiles o))) c.self.view_is
+    (works_same (SparesAllBut (λ n. n ≡ e.tail.file.name)) 0 0 (g.D.Disk.past e.disk) (g.D.Disk.past c.write_out.new.disk) (c.write_out.ensures.works 0 0))

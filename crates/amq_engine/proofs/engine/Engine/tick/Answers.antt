@@ -5,6 +5,8 @@ use Rattle.amq_model.specs.declared.refusal.Refusal.TheVariants.{Closed}
 use Rattle.amq_engine.specs.Receipts.{GoesOn}
 use Rattle.amq_engine.specs.Engine.{IsChronicle, end_of_tail}
 use Rattle.amq_model.specs.Leaves.{Told}
+use Rattle.amq_engine.specs.DataFiles.{HasSameFiles, HasId, LeavesAllBut}
+use Rattle.amq_engine.proofs.FilesTold.{same_told, still_alone}
 use Rattle.amq_loader.specs.Loads.{IsTidy}
 use Rattle.amq_engine.proofs.Commanding.{valid_chronicle}
 use Rattle.amq_engine.proofs.GoingOn.{goes_still}
@@ -54,3 +56,21 @@ returns-then-due-clause-tidy g c = subst (λ v. OnOk c.flush.result (Told (g.D.D
 
 pub returns-clause-tidy : goal.returns-clause-tidy
 returns-clause-tidy g c = subst (λ v. Told (g.D.Disk.past v.disk) IsTidy → Told (g.D.Disk.past c.self.inside.disk) IsTidy) c.self.view_is (λ tidy. tidy)
+
+pub returns-in-Some-clause-spares : goal.returns-in-Some-clause-spares
+returns-in-Some-clause-spares g c = still_alone (HasId c.args.self.now.file) (g.D.Disk.past c.args.self.now.disk)
+
+pub returns-then-due-clause-spares : goal.returns-then-due-clause-spares
+returns-then-due-clause-spares g c = subst (λ v. LeavesAllBut (HasId v.file) (g.D.Disk.past v.disk) (g.D.Disk.past c.flush.new.self.disk)) c.self.view_is c.flush.ensures.spares
+
+pub returns-clause-spares : goal.returns-clause-spares
+returns-clause-spares g c = subst (λ v. LeavesAllBut (HasId v.file) (g.D.Disk.past v.disk) (g.D.Disk.past c.self.inside.disk)) c.self.view_is (still_alone (HasId c.self.inside.tail.file.id) (g.D.Disk.past c.self.inside.disk))
+
+pub returns-in-Some-clause-files : goal.returns-in-Some-clause-files
+returns-in-Some-clause-files g c = same_told (g.D.Disk.past c.args.self.now.disk)
+
+pub returns-then-due-clause-files : goal.returns-then-due-clause-files
+returns-then-due-clause-files g c = subst (λ v. Told (g.D.Disk.past v.disk) (λ o. Told (g.D.Disk.past c.flush.new.self.disk) (HasSameFiles o))) c.self.view_is c.flush.ensures.files
+
+pub returns-clause-files : goal.returns-clause-files
+returns-clause-files g c = subst (λ v. Told (g.D.Disk.past v.disk) (λ o. Told (g.D.Disk.past c.self.inside.disk) (HasSameFiles o))) c.self.view_is (same_told (g.D.Disk.past c.self.inside.disk))

@@ -1,0 +1,114 @@
+-- Which data files there are behind calls of a disk, and which files the calls leave alone.
+use Rattle.std.specs.Prelude.{◌≡◌, ◌⊎◌, ℕ, ◌+◌, ◌-◌, ◌^◌, ◌<◌, ◌≤◌, Bool, true, false, nat_le, if◌then◌else◌, take, drop, length, Option, None, Some, IsTrue}
+use Rattle.std.specs.Int.{w64, from_be_bytes}
+use Rattle.std.specs.FinMap as finite
+use Rattle.amq_model.specs.declared.config.Config.{Config}
+use Rattle.amq_model.specs.declared.command.Command.{Command}
+use Rattle.amq_model.specs.Names.{is_data, control_name}
+use Rattle.amq_model.specs.Directory.{data_files}
+use Rattle.amq_model.specs.Files.{FileName, File, Files, Image, IsReading}
+use Rattle.amq_model.specs.Calls.{Past, content}
+use Rattle.amq_model.specs.Leaves.{Leaves, Told, Syncs, IsSyncedFile, SparesAllBut}
+use Rattle.amq_header.specs.Classes.{data_name, temporary_name}
+use Rattle.amq_loader.specs.Loads.{is_leftover}
+use Rattle.amq_engine.specs.Opening.{HasNumbers}
+use Rattle.amq_engine.specs.Engine.{EngineOf, prepares}
+
+-- ---- the data files
+
+-- the id and the length of a file, where it is long enough for a header
+abbrev pub id_and_length : Option File → Option (ℕ × ℕ)
+id_and_length None = None
+id_and_length (Some file) = if nat_le 16 (length file.bytes) then Some (from_be_bytes w64 (take 8 (drop 8 file.bytes)), length file.bytes) else None
+
+-- the id and the length of the data file of that name, where one is there
+abbrev pub data_file_at : FileName → Files → Option (ℕ × ℕ)
+data_file_at n s = if is_data n then id_and_length (finite.get s n) else None
+
+-- each name has the data file that it had, by id and length, or none as before
+abbrev pub HasSameFiles : Files → Files → Type 0
+HasSameFiles o s = (n : FileName) → data_file_at n s ≡ data_file_at n o
+
+-- the name of a data file with a number above the first one, up to the last
+abbrev pub IsNumbered : ℕ → ℕ → FileName → Type 0
+IsNumbered first last n = (k : ℕ) × (first < k) × (k ≤ last) × (n ≡ data_name k)
+
+-- Under the name of each number above the first one, up to the last, stands a data file of this size with the number as its id; each other name has the data file that it had, or none as before.
+pub record HasMade (size first last : ℕ) (o s : Files) : Type 0 where
+  pub made : (k : ℕ) → first < k → k ≤ last → data_file_at (data_name k) s ≡ Some (k, size)
+  pub others : (n : FileName) → (IsNumbered first last n → ⊥) → data_file_at n s ≡ data_file_at n o
+
+-- so many data files are there
+pub record HasCount (count : ℕ) (s : Files) : Type 0 where
+  pub image : Image
+  pub reading : IsReading s image
+  pub is : length (data_files (finite.entries image) None) ≡ count
+
+-- the data file of that name has this id
+abbrev pub HasId : ℕ → Files → FileName → Type 0
+HasId id s n = (len : ℕ) × (data_file_at n s ≡ Some (id, len))
+
+-- ---- what is left alone
+
+-- the name of a data file with a number from the first one to the last, or the name under which that file is prepared
+abbrev pub IsPreparing : ℕ → ℕ → FileName → Type 0
+IsPreparing first last n = (k : ℕ) × (first ≤ k) × (k ≤ last) × ((n ≡ data_name k) ⊎ (n ≡ temporary_name k))
+
+-- the file in use, by its name, or one of those that are prepared
+abbrev pub IsUsedOrNew : FileName → ℕ → ℕ → FileName → Type 0
+IsUsedOrNew used first last n = (n ≡ used) ⊎ IsPreparing first last n
+
+-- All files but those of these names, which depend on what was read at first, are as they were, at each moment and in the end.
+abbrev pub LeavesAllBut : (Files → FileName → Type 0) → Option Past → Option Past → Type 0
+LeavesAllBut Among None new = new ≡ None
+LeavesAllBut Among (Some old) new = Leaves (SparesAllBut (Among (content old.start old.calls))) (SparesAllBut (Among (content old.start old.calls))) (Some old) new
+
+-- a file that a command may write to: the one in use, by its id; and where the command prepares one, that with the next number
+abbrev pub IsCommandFile : {D C : Type 0} → EngineOf D C → Command → Files → FileName → Type 0
+IsCommandFile e command s n = HasId e.file s n ⊎ (IsTrue (prepares e command) × IsPreparing (e.highest + 1) (e.highest + 1) n)
+
+-- all files but those of these names have the bytes that they had, and no place is pending that wasn't
+abbrev pub SyncsAllBut : (FileName → Type 0) → Files → Files → Type 0
+SyncsAllBut Among o s = (n : FileName) → (Among n → ⊥) → IsSyncedFile (finite.get o n) (finite.get s n)
+
+-- a file that an opening may remove or make: a compacted or temporary one, or a data file with a number above the first one, up to the last
+abbrev pub IsRenewed : ℕ → ℕ → FileName → Type 0
+IsRenewed first last n = IsTrue (is_leftover n) ⊎ IsNumbered first last n
+
+-- ---- what calls have done
+
+-- The calls kept the files so, at each moment and in the end, and the data files in the end are those that there were and those of the numbers above the first one, up to the last.
+pub record Works (Keeps : Files → Files → Type 0) (size first last : ℕ) (old new : Option Past) : Type 0 where
+  pub keeps : Leaves Keeps Keeps old new
+  pub files : Told old (λ o. Told new (HasMade size first last o))
+
+-- The same up to a number that is the most where all was done, and else that or the one before it.
+pub record Worked (done : Bool) (Keeps : Files → Files → Type 0) (size first most : ℕ) (old new : Option Past) : Type 0 where
+  pub last : ℕ
+  pub least : first ≤ last
+  pub within : last ≤ most
+  pub near : most ≤ last + 1
+  pub all : done ≡ true → last ≡ most
+  pub works : Works Keeps size first last old new
+
+-- The same up to some number that a file may have, which is this one where all was done; files of numbers from `from` on may be written to.
+abbrev pub WorkedTo : Bool → ℕ → ℕ → ℕ → ℕ → Option Past → Option Past → Type 0
+WorkedTo done size from first reached old new = (most : ℕ) × (most ≤ 2 ^ 31 - 1) × (done ≡ true → most ≡ reached) × Worked done (SparesAllBut (IsPreparing from most)) size first most old new
+
+-- ---- an opening
+
+-- What an opening leaves, on every disk: no file is written to but leftovers and the files of the new numbers, up to the highest; the data files are those that there were and those of the new numbers; and they are as many as the configuration asks for, or the numbers are spent.
+pub record HasOpenedFiles (config : Config) (highest : ℕ) (old new : Option Past) : Type 0 where
+  pub files : ℕ
+  pub before : ℕ
+  pub had : Told old (HasNumbers files before)
+  pub works : Works (SyncsAllBut (IsRenewed before highest)) config.file_size before highest old new
+  pub count : Told new (HasCount (files + (highest - before)))
+  pub enough : (config.min_files ≤ files + (highest - before)) ⊎ (highest ≡ 2 ^ 31 - 1)
+  pub most : highest ≤ 2 ^ 31 - 1
+
+-- What an opening that failed leaves: files were only made durable; or leftovers may be gone, and there are files of the next numbers, where the last one may be missing.
+abbrev pub HasFailedFiles : Config → Option Past → Option Past → Type 0
+HasFailedFiles config old new =
+    Leaves Syncs Syncs old new
+    ⊎ ((files before most : ℕ) × Told old (HasNumbers files before) × (most ≤ 2 ^ 31 - 1) × Worked false (SyncsAllBut (IsRenewed before most)) config.file_size before most old new)
