@@ -28,6 +28,10 @@ use Rattle.amq_engine.proofs.Listing.{used_id}
 use Rattle.amq_engine.proofs.RollingBack.{end_snoc}
 use Rattle.amq_engine.proofs.Rollbacks.{end_is}
 
+-- the file and the place of a record
+abbrev spot : Placed → ℕ × ℕ
+spot q = (q.file, q.place)
+
 -- ---- one behind the other
 
 -- one more, behind the last
@@ -98,13 +102,16 @@ module _ (config : Config) (first : ℕ) where
 -- the next file has the next number
 next_number : (config : Config) (table : TxState) (pool : PoolOf) (t : Tail) (p : Parts config table pool t) → (next_file pool).id ≡ t.file.id + 1
 next_number config table pool t p = by pool.prepared refl where
+  abbrev first_of : List PoolFile → PoolFile
+  first_of l = elim l [ [] ↦ numbered_file (pool.highest + 1) | f ∷ fs ↦ f ]
+
   low : t.file.id ≤ pool.highest
   low = used_id pool.highest (p.old ++ p.closed) t.file pool.prepared p.listed
 
   by : (files : List PoolFile) → pool.prepared ≡ files → (next_file pool).id ≡ t.file.id + 1
   by [] none = first (pool.highest - t.file.id) refl (sym p.behind ∙ ap ids_of none) where
     first : (n : ℕ) → pool.highest - t.file.id ≡ n → ids_of (files_from (t.file.id + 1) n) ≡ [] → (next_file pool).id ≡ t.file.id + 1
-    first zero left is = ap (λ (l : List PoolFile). (elim l [ [] ↦ numbered_file (pool.highest + 1) | f ∷ fs ↦ f ]).id) none ∙ omega (arith, left, low)
+    first zero left is = ap (λ (l : List PoolFile). (first_of l).id) none ∙ omega (arith, left, low)
     first (suc n) left is = absurd (let e : (t.file.id + 1) ∷ ids_of (files_from (t.file.id + 1 + 1) n) ≡ [] = is in cc)
   by (f ∷ fs) some = first (pool.highest - t.file.id) refl (sym p.behind ∙ ap ids_of some) where
     first : (n : ℕ) → pool.highest - t.file.id ≡ n → ids_of (files_from (t.file.id + 1) n) ≡ f.id ∷ ids_of fs → (next_file pool).id ≡ t.file.id + 1
@@ -112,15 +119,23 @@ next_number config table pool t p = by pool.prepared refl where
     first (suc n) left is =
         let e : (t.file.id + 1) ∷ ids_of (files_from (t.file.id + 1 + 1) n) ≡ f.id ∷ ids_of fs = is in
         let same : t.file.id + 1 ≡ f.id = cc in
-        ap (λ (l : List PoolFile). (elim l [ [] ↦ numbered_file (pool.highest + 1) | g ∷ gs ↦ g ]).id) some ∙ sym same
+        ap (λ (l : List PoolFile). (first_of l).id) some ∙ sym same
 
 -- once the journal is ready for it, it stands where it must
-pub placed_at : (config : Config) (table : TxState) (pool : PoolOf) (t : Tail) (p : Parts config table pool t) (m b : Bool) (rec : Record) → m ≡ passes config.file_size (end_of_tail t) (Some (len_of rec)) → (let q = placed_behind (readied m b pool t) rec in (q.file, q.place)) ≡ place_behind config t.file.id (end_of_tail t) (len_of rec)
-placed_at config table pool t p true b rec moves = ap (λ (n : ℕ). (n, 16)) (next_number config table pool t p) ∙ sym (ap (λ (c : Bool). cond c (t.file.id + 1, 16) (t.file.id, end_of_tail t)) (sym moves))
-placed_at config table pool t p false b rec moves = by b ∙ sym (ap (λ (c : Bool). cond c (t.file.id + 1, 16) (t.file.id, end_of_tail t)) (sym moves)) where
-  by : (b : Bool) → (let q = placed_behind (readied false b pool t) rec in (q.file, q.place)) ≡ (t.file.id, end_of_tail t)
-  by true = ap (λ (n : ℕ). (t.file.id, n)) (omega arith)
-  by false = refl
+pub placed_at : (config : Config) (table : TxState) (pool : PoolOf) (t : Tail) (p : Parts config table pool t) (m b : Bool) (rec : Record) → m ≡ passes config.file_size (end_of_tail t) (Some (len_of rec)) → spot (placed_behind (readied m b pool t) rec) ≡ place_behind config t.file.id (end_of_tail t) (len_of rec)
+placed_at config table pool t p true b rec moves =
+    let next : ℕ × ℕ = (t.file.id + 1, 16) in
+    let here : ℕ × ℕ = (t.file.id, end_of_tail t) in
+    let at : ℕ → ℕ × ℕ = λ n. (n, 16) in
+    ap at (next_number config table pool t p) ∙ sym (ap (λ (c : Bool). cond c next here) (sym moves))
+placed_at config table pool t p false b rec moves =
+    let next : ℕ × ℕ = (t.file.id + 1, 16) in
+    let here : ℕ × ℕ = (t.file.id, end_of_tail t) in
+    by b ∙ sym (ap (λ (c : Bool). cond c next here) (sym moves))
+  where
+    by : (b : Bool) → spot (placed_behind (readied false b pool t) rec) ≡ (t.file.id, end_of_tail t)
+    by true = let at : ℕ → ℕ × ℕ = λ n. (t.file.id, n) in ap at (omega arith)
+    by false = refl
 
 -- a command without a record leaves the file and the end
 pub same_end : (config : Config) (m b : Bool) (pool : PoolOf) (t : Tail) (end : ℕ) → m ≡ passes config.file_size end None → ((readied m b pool t).file.id ≡ t.file.id) × (end_of_tail (readied m b pool t) ≡ end_of_tail t)
@@ -146,7 +161,7 @@ stands_put config first table pool t u v p m b now None x lists lists' moves rea
     stands_bare config first t.file.id (end_of_tail t) v.file.id (end_of_tail v) lists lists' x placed noted (ap (λ (y : Tail). y.file.id) w ∙ same.0) (ap end_of_tail w ∙ same.1) stands
 stands_put config first table pool t u v p m b now (Some rec) x lists lists' moves ready put placed noted stands =
     let q = placed_behind u rec in
-    let at : (q.file, q.place) ≡ place_behind config t.file.id (end_of_tail t) (len_of rec) = ap (λ (y : Tail). (let q = placed_behind y rec in (q.file, q.place))) ready ∙ placed_at config table pool t p m b rec moves in
+    let at : spot q ≡ place_behind config t.file.id (end_of_tail t) (len_of rec) = ap (λ (y : Tail). spot (placed_behind y rec)) ready ∙ placed_at config table pool t p m b rec moves in
     let end : end_of_tail v ≡ q.place + len_of rec = ap end_of_tail put ∙ omega (arith, length-append u.buffer.bytes (spelling 2 u.file.id 0 rec), length_spelling 2 u.file.id 0 rec) in
     let file : v.file.id ≡ q.file = ap (λ (y : Tail). y.file.id) put in
     subst (λ (k : ℕ). IfSome lists' (StandsFrom config first k (end_of_tail v))) (sym file) (subst (λ (k : ℕ). IfSome lists' (StandsFrom config first q.file k)) (sym end) (stands_more config first t.file.id (end_of_tail t) lists lists' x q placed noted at stands))

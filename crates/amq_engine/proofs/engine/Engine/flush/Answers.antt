@@ -1,4 +1,4 @@
-use Rattle.std.proofs.Common.{◌<◌, ap, subst, ◌∙◌, ℕ, ◌≡◌}
+use Rattle.std.proofs.Common.{◌≡◌, ◌<◌, ap, subst, ◌∙◌, ℕ, ◌≡◌}
 use Rattle.std.specs.Prelude.{IfSome, IsSome}
 use Rattle.amq_tx.specs.Tables.{state_of}
 use Rattle.amq_engine.specs.Receipts.{GoesOn}
