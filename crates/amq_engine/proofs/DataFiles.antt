@@ -38,7 +38,7 @@ on_err (Err e) P p = p
 -- ---- the data files that are told
 
 -- the same directory, file by file of a data file's name
-files_by : (o s : Files) (n : FileName) → (IsTrue (is_data n) → finite.get s n ≡ finite.get o n) → data_file_at n s ≡ data_file_at n o
+pub files_by : (o s : Files) (n : FileName) → (IsTrue (is_data n) → finite.get s n ≡ finite.get o n) → data_file_at n s ≡ data_file_at n o
 files_by o s n same = by (is_data n) same where
   by : (b : Bool) → (IsTrue b → finite.get s n ≡ finite.get o n) → cond b (id_and_length (finite.get s n)) None ≡ cond b (id_and_length (finite.get o n)) None
   by true same = ap id_and_length (same refl)
@@ -71,7 +71,7 @@ head_kept old place bytes from fits =
 id_kept : (a b : List ℕ) → take 16 a ≡ take 16 b → take 8 (drop 8 a) ≡ take 8 (drop 8 b)
 id_kept a b is = sym (drop-take 8 8 a) ∙ ap (drop 8) is ∙ drop-take 8 8 b
 
-info_by : (a b : List ℕ) → length a ≡ length b → take 16 a ≡ take 16 b
+pub info_by : (a b : List ℕ) → length a ≡ length b → take 16 a ≡ take 16 b
     → cond {A = Option (ℕ × ℕ)} (leb 16 (length a)) (Some (from_be_bytes w64 (take 8 (drop 8 a)), length a)) None ≡ cond {A = Option (ℕ × ℕ)} (leb 16 (length b)) (Some (from_be_bytes w64 (take 8 (drop 8 b)), length b)) None
 info_by a b long head =
     ap (λ (k : ℕ). cond {A = Option (ℕ × ℕ)} (leb 16 k) (Some (from_be_bytes w64 (take 8 (drop 8 a)), k)) None) long
@@ -143,7 +143,7 @@ module _ (config : Config) (highest : ℕ) (is : IsConfig config) (low : highest
 
 -- ---- from call to call
 
-told_two : (I E : Files → Files → Type 0) (R Q : Files → Files → Type 0) (a b : Option Past) (P : Files → Type 0) → Told a P → ((o s : Files) → P o → E o s → Q o s) → Leaves I E a b → Told a (λ o. Told b (Q o))
+pub told_two : (I E : Files → Files → Type 0) (R Q : Files → Files → Type 0) (a b : Option Past) (P : Files → Type 0) → Told a P → ((o s : Files) → P o → E o s → Q o s) → Leaves I E a b → Told a (λ o. Told b (Q o))
 told_two I E R Q None b P was step went = tt
 told_two I E R Q (Some p) b P was step went = subst (λ (h : Option Past). Told h (Q (content p.start p.calls))) (sym went.1) (step _ _ was went.2.told)
 

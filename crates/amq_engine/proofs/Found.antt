@@ -24,7 +24,7 @@ use Rattle.amq_scan.proofs.Sorted.{sorted_has}
 use Rattle.amq_loader.specs.declared.loaded.Loaded.{Loaded}
 use Rattle.amq_loader.specs.Loads.{is_leftover, leftovers_of, data_file, AreRising, IsSoundFile, IsLoad, IsLoadOf, IsStateOf}
 use Rattle.amq_loader.specs.Bases.{AreThere}
-use Rattle.amq_loader.proofs.Bases.{leftovers_there, leftovers_apart, leftovers_no_data, load_asked, load_synced}
+use Rattle.amq_loader.proofs.Bases.{leftovers_are, leftovers_there, leftovers_apart, leftovers_no_data, load_asked, load_synced}
 use Rattle.amq_engine.specs.Opening.{HasBase, HasNumbers, AreLeft}
 
 -- ---- calls that only ask or sync
@@ -95,6 +95,7 @@ module _ (wanted : ℕ) (l : Loaded) (s : Files) (load : IsLoadOf wanted l s) wh
   left_of_load = record {
     there = leftovers_there wanted l s load;
     apart = leftovers_apart wanted l s load;
+    are = leftovers_are wanted l s load;
     others = leftovers_no_data wanted l s load;
     all = λ n is out. no_other n is out (finite.get s n) refl;
   }

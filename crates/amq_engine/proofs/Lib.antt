@@ -22,6 +22,7 @@ pub mod Spent
 pub mod Leaving
 pub mod DataFiles
 pub mod FilesTold
+pub mod OpenedFiles
 pub mod Accepting
 pub mod Found
 pub mod Begun

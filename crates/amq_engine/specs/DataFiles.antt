@@ -8,7 +8,7 @@ use Rattle.amq_model.specs.Names.{is_data, control_name}
 use Rattle.amq_model.specs.Directory.{data_files}
 use Rattle.amq_model.specs.Files.{FileName, File, Files, Image, IsReading}
 use Rattle.amq_model.specs.Calls.{Past, content}
-use Rattle.amq_model.specs.Leaves.{Leaves, Told, Syncs, IsSyncedFile, SparesAllBut}
+use Rattle.amq_model.specs.Leaves.{Leaves, Told, IsSyncedFile, SparesAllBut}
 use Rattle.amq_header.specs.Classes.{data_name, temporary_name}
 use Rattle.amq_loader.specs.Loads.{is_leftover}
 use Rattle.amq_engine.specs.Opening.{HasNumbers}
@@ -103,12 +103,5 @@ pub record HasOpenedFiles (config : Config) (highest : ℕ) (old new : Option Pa
   pub before : ℕ
   pub had : Told old (HasNumbers files before)
   pub works : Works (SyncsAllBut (IsRenewed before highest)) config.file_size before highest old new
-  pub count : Told new (HasCount (files + (highest - before)))
   pub enough : (config.min_files ≤ files + (highest - before)) ⊎ (highest ≡ 2 ^ 31 - 1)
   pub most : highest ≤ 2 ^ 31 - 1
-
--- What an opening that failed leaves: files were only made durable; or leftovers may be gone, and there are files of the next numbers, where the last one may be missing.
-abbrev pub HasFailedFiles : Config → Option Past → Option Past → Type 0
-HasFailedFiles config old new =
-    Leaves Syncs Syncs old new
-    ⊎ ((files before most : ℕ) × Told old (HasNumbers files before) × (most ≤ 2 ^ 31 - 1) × Worked false (SyncsAllBut (IsRenewed before most)) config.file_size before most old new)

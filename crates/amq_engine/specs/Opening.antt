@@ -121,6 +121,7 @@ HasRollCause config o.NoMemory lists was now = NoneFailed was now
 pub record AreLeft (names : List FileName) (s : Files) : Type 0 where
   pub there : All (λ n. IsThere n s) names
   pub apart : AreApart names
+  pub are : (n : FileName) → Contains names n → is_leftover n ≡ true
   pub others : (n : FileName) → Contains names n → (is_data n ≡ false) × (n ≡ control_name → ⊥)
   pub all : (n : FileName) → is_leftover n ≡ true → (Contains names n → ⊥) → finite.get s n ≡ None
 

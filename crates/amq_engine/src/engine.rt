@@ -12,7 +12,7 @@ ghost use Rattle.amq_buffer.specs.Buffered.{is_due};
 ghost use Rattle.amq_loader.specs.Loads.{IsStateOf, IsTidy};
 ghost use Rattle.amq_engine.specs.Directory.{IsJournal};
 ghost use Rattle.amq_engine.specs.Opening.{HasBase, AreRolledBack, AreFirstRollbacks, IsFilled, StandsFrom, HasOpenCause};
-ghost use Rattle.amq_engine.specs.DataFiles.{HasMade, HasSameFiles, HasId, LeavesAllBut, IsCommandFile};
+ghost use Rattle.amq_engine.specs.DataFiles.{HasMade, HasSameFiles, HasId, LeavesAllBut, IsCommandFile, HasOpenedFiles};
 ghost use Rattle.amq_engine.specs.Receipts.{IsCrashSafe, GoesOn, BeginsBySyncs};
 ghost use Rattle.amq_engine.specs.Engine.{Notes, IsCommandAnswer, IsCommandRefusal, IsChronicle, IsBlank, AreSpentAtLast, HasCause, IsFlushRefusal, closed_after, durable_after, fault_refusal, closed_by, receipted, IsReply, prepares, asks_disk, flushed, behind_command, BehindRefused, behind_tick, must_flush, at_clock, is_noted, writes_first};
 ghost use Rattle.amq_engine.specs.Owed.{AreOwedAtOpening};
@@ -120,6 +120,9 @@ impl<D: Disk, C: Chronicle> Engine<D, C> {
         ensures files { IfOk result (λ e. IfSome (C.lists e.0.chronicle) (λ l. Told (D.past disk) (IsFilled config (rolled_back l.base) (history_of l.steps) e.0.file e.0.end e.0.highest e.0.free))) }
         ensures content { IfOk result (λ e. IfSome (C.lists e.0.chronicle) (λ l. Told (D.past e.0.disk) (IsJournal config.user_version l.base (history_of l.steps)))) }
         ensures faults { IfOk result (λ e. NoneFailed (D.faults disk) (D.faults e.0.disk)) }
+        ensures opened_files { IfOk result (λ e. HasOpenedFiles config e.0.highest (D.past disk) (D.past e.0.disk)) }
+        ensures later { IfOk result (λ e. (D.faults disk).0 ≤ (D.faults e.0.disk).0) }
+        ensures failed { IfOk result (λ e. (D.faults e.0.disk).1 ≡ (D.faults disk).1) }
         ensures cause { IfErr result (λ e. HasOpenCause config e.fault (C.lists e.chronicle) (D.past disk) (D.past e.disk) (D.faults disk) (D.faults e.disk)) }
         ensures failed_later { IfErr result (λ e. (D.faults disk).0 ≤ (D.faults e.disk).0) }
         ensures failed_legal { IfErr result (λ e. IfSome (C.lists e.chronicle) (λ l. AreLegalOfRefused l.base l.steps config)) }

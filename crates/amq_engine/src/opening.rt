@@ -4,7 +4,7 @@ ghost use Rattle.amq_model.specs.declared.record.Placed.{Placed};
 ghost use Rattle.amq_model.specs.Configs.{IsConfig};
 ghost use Rattle.amq_model.specs.Effect.{result_of};
 ghost use Rattle.amq_model.specs.Legal.{rolled_back};
-ghost use Rattle.amq_model.specs.Leaves.{Leaves, Syncs, AllReads, Told, HoldsSince};
+ghost use Rattle.amq_model.specs.Leaves.{Leaves, Syncs, AllReads, Told, HoldsSince, SparesAllBut};
 ghost use Rattle.amq_model.specs.LoadCalls.{Makes};
 ghost use Rattle.amq_io.specs.Cause.{NoneFailed};
 ghost use Rattle.amq_io.specs.Faults.{HasFault};
@@ -15,6 +15,7 @@ ghost use Rattle.amq_pool.specs.Pools.{IsPool, numbered_file, Making, Made};
 ghost use Rattle.amq_loader.specs.Loads.{IsLoad, IsLoadOf, IsStateOf, IsTidy};
 ghost use Rattle.amq_loader.specs.Bases.{IsBase};
 ghost use Rattle.amq_engine.specs.Directory.{Stands};
+ghost use Rattle.amq_engine.specs.DataFiles.{Works, IsRenewed, SyncsAllBut};
 ghost use Rattle.amq_engine.specs.Lists.{Lists, with_base, with_receipt};
 ghost use Rattle.amq_engine.specs.Receipts.{IsCrashSafe, GoesOn, AreOpeningCalls, AreFirstOpeningCalls, BeginsBySyncs};
 ghost use Rattle.amq_engine.specs.Engine.{rolling, IsValid, IsBlank, Holds, open_fault};
@@ -182,6 +183,7 @@ fn renew<D: Disk>(
         → HoldsSince (D.past disk.new) moment (Holds config.now.user_version base 0 []) }
     ensures stands { OnOk result ((base : List Placed) (b : IsBase (D.past disk.old) config.now.user_version loaded.now.highest_file base)
         → AllReads (D.past disk.new) (Stands config.now b.files (numbered_file (loaded.now.highest_file + 1)) 0 [] [])) }
+    ensures works { OnOk result (Works (SparesAllBut (IsRenewed loaded.now.highest_file (loaded.now.highest_file + 1))) config.now.file_size loaded.now.highest_file (loaded.now.highest_file + 1) (D.past disk.old) (D.past disk.new)) }
     ensures tidy { OnOk result (Told (D.past disk.new) IsTidy) }
     ensures cause { HasFault result (D.faults disk.old) (D.faults disk.new) }
     ensures later { D.moment disk.old ≤ D.moment disk.new }
@@ -252,6 +254,7 @@ pub fn begin<D: Disk, C: Chronicle>(
     ensures numbers { IfOk result (λ b. Told (D.past disk.old) (λ s. (before : ℕ) × HasNumbers b.files before s × (b.file.id ≡ before + 1) × (before < 2 ^ 31 - 1))) }
     ensures count { IfOk result (λ b. b.files ≤ b.file.id) }
     ensures loaded { IfOk result (λ b. Told (D.past disk.old) (IsStateOf config.now.user_version b.state)) }
+    ensures begun { IfOk result (λ b. (before : ℕ) × (b.file ≡ numbered_file (before + 1)) × (b.pool.highest ≡ before + 1) × (before < 2 ^ 31 - 1) × Told (D.past disk.old) (HasNumbers b.files before) × Works (SyncsAllBut (IsRenewed before (before + 1))) config.now.file_size before (before + 1) (D.past disk.old) (D.past disk.new)) }
     ensures tidy { OnOk result (Told (D.past disk.new) IsTidy) }
     ensures cause { IfErr result (λ fault. HasOpenCause config.now fault (C.lists chronicle.new) (D.past disk.old) (D.past disk.new) (D.faults disk.old) (D.faults disk.new)) }
     ensures faults { OnOk result (NoneFailed (D.faults disk.old) (D.faults disk.new)) }

@@ -1,5 +1,5 @@
 //! The rollbacks of an opening: of each transaction that was left open and isn't prepared.
-ghost use Rattle.std.specs.Prelude.{◌≡◌, ◌+◌, ◌^◌, ◌<◌, ◌≤◌, ◌++◌, ◌∷◌, ℕ, List, [], length, take, slice_get, Some, option_map, IfSome, IfErr, OnOk, OnErr};
+ghost use Rattle.std.specs.Prelude.{◌≡◌, ◌+◌, ◌^◌, ◌<◌, ◌≤◌, ◌++◌, ◌∷◌, ℕ, List, [], length, take, slice_get, Some, option_map, IfSome, IfErr, OnOk, OnErr, true};
 ghost use Rattle.amq_model.specs.declared.record.Placed.{Placed};
 ghost use Rattle.amq_model.specs.declared.history.Step.{Step};
 ghost use Rattle.amq_model.specs.Answers.{history_of};
@@ -7,7 +7,9 @@ ghost use Rattle.amq_model.specs.Legal.{rolled_back};
 ghost use Rattle.amq_model.specs.Leaves.{Told};
 ghost use Rattle.amq_io.specs.Cause.{NoneFailed};
 ghost use Rattle.amq_tx.specs.Tables.{state_of};
+ghost use Rattle.amq_pool.specs.Pools.{numbered_file};
 ghost use Rattle.amq_loader.specs.Loads.{IsTidy};
+ghost use Rattle.amq_engine.specs.DataFiles.{WorkedTo};
 ghost use Rattle.amq_engine.specs.declared.chronicle.Receipted.{Receipted};
 ghost use Rattle.amq_engine.specs.Lists.{steps_in};
 ghost use Rattle.amq_engine.specs.Receipts.{GoesOn, StartsWith};
@@ -41,6 +43,7 @@ pub fn roll_back<D: Disk, C: Chronicle>(
     requires valid { (base : List Placed) × IsValid (rolling base 0) (D.past disk.old) (D.moment disk.old) (C.lists chronicle.old) (C.receipt_room chronicle.old) config.now (state_of table.old) pool.old tail.old × (txs.now ≡ rolled_back base) }
     requires begun { (pool.old.prepared ≡ []) × (pool.old.highest ≡ tail.old.file.id) × (end_of_tail tail.old ≡ 16) }
     requires blank { IfSome (C.lists chronicle.old) (λ l. l.steps ≡ []) }
+    requires named { tail.old.file ≡ numbered_file pool.old.highest }
     ensures ok { OnOk result ((base : List Placed) → txs.now ≡ rolled_back base
         → IsValid (rolling base 0) (D.past disk.old) (D.moment disk.old) (C.lists chronicle.old) (C.receipt_room chronicle.old) config.now (state_of table.old) pool.old tail.old
         → IsValid (rolling base (length txs.now)) (D.past disk.new) (D.moment disk.new) (C.lists chronicle.new) (C.receipt_room chronicle.new) config.now (state_of table.new) pool.new tail.new) }
@@ -58,6 +61,8 @@ pub fn roll_back<D: Disk, C: Chronicle>(
     ensures later_faults { (D.faults disk.old).0 ≤ (D.faults disk.new).0 }
     ensures later { D.moment disk.old ≤ D.moment disk.new }
     ensures goes_on { GoesOn (D.past disk.old) (D.past disk.new) }
+    ensures named { OnOk result (tail.new.file ≡ numbered_file pool.new.highest) }
+    ensures works { OnOk result (WorkedTo true config.now.file_size pool.old.highest pool.old.highest pool.new.highest (D.past disk.old) (D.past disk.new)) }
     ensures tidy { OnOk result (Told (D.past disk.old) IsTidy → Told (D.past disk.new) IsTidy) }
     ensures first { (r : Receipted) → IfSome (C.lists chronicle.old) (StartsWith r) → IfSome (C.lists chronicle.new) (StartsWith r) }
     ensures owed { IfSome (C.lists chronicle.old) (AreOwedToSteps config.now) → OnOk result (IfSome (C.lists chronicle.new) (AreOwedToSteps config.now)) }
@@ -84,6 +89,7 @@ fn roll_back_next<D: Disk, C: Chronicle>(
     requires valid { (base : List Placed) × IsValid (rolling base done) (D.past disk.old) (D.moment disk.old) (C.lists chronicle.old) (C.receipt_room chronicle.old) config.now (state_of table.old) pool.old tail.old × (slice_get (rolled_back base) done ≡ Some tx) }
     requires begun { (pool.old.prepared ≡ []) × (pool.old.highest ≡ tail.old.file.id) }
     requires ended { IfSome (C.lists chronicle.old) (λ l. (first : ℕ) × EndsIn first (history_of l.steps) tail.old.file.id (end_of_tail tail.old)) }
+    requires named { tail.old.file ≡ numbered_file pool.old.highest }
     ensures ok { OnOk result ((base : List Placed) → slice_get (rolled_back base) done ≡ Some tx
         → IsValid (rolling base done) (D.past disk.old) (D.moment disk.old) (C.lists chronicle.old) (C.receipt_room chronicle.old) config.now (state_of table.old) pool.old tail.old
         → IsValid (rolling base (done + 1)) (D.past disk.new) (D.moment disk.new) (C.lists chronicle.new) (C.receipt_room chronicle.new) config.now (state_of table.new) pool.new tail.new) }
@@ -101,6 +107,8 @@ fn roll_back_next<D: Disk, C: Chronicle>(
     ensures later_faults { (D.faults disk.old).0 ≤ (D.faults disk.new).0 }
     ensures later { D.moment disk.old ≤ D.moment disk.new }
     ensures goes_on { GoesOn (D.past disk.old) (D.past disk.new) }
+    ensures named { OnOk result (tail.new.file ≡ numbered_file pool.new.highest) }
+    ensures works { OnOk result (WorkedTo true config.now.file_size pool.old.highest pool.old.highest pool.new.highest (D.past disk.old) (D.past disk.new)) }
     ensures tidy { OnOk result (Told (D.past disk.old) IsTidy → Told (D.past disk.new) IsTidy) }
     ensures first { (r : Receipted) → IfSome (C.lists chronicle.old) (StartsWith r) → IfSome (C.lists chronicle.new) (StartsWith r) }
     ensures owed { IfSome (C.lists chronicle.old) (AreOwedToSteps config.now) → OnOk result (IfSome (C.lists chronicle.new) (AreOwedToSteps config.now)) }

@@ -1,5 +1,5 @@
 //! An opening, from the directory to the parts of an engine.
-ghost use Rattle.std.specs.Prelude.{◌≡◌, ◌⊎◌, ◌+◌, ◌-◌, ◌^◌, ◌≤◌, ℕ, List, [], length, take, min, option_map, None, IfSome, IfOk, IfErr, OnOk, OnErr};
+ghost use Rattle.std.specs.Prelude.{◌≡◌, ◌⊎◌, ◌+◌, ◌-◌, ◌^◌, ◌≤◌, ℕ, List, [], length, take, min, option_map, None, IfSome, IfOk, IfErr, OnOk, OnErr, true};
 ghost use Rattle.amq_model.specs.declared.record.Placed.{Placed};
 ghost use Rattle.amq_model.specs.Configs.{IsConfig};
 ghost use Rattle.amq_model.specs.Effect.{result_of};
@@ -8,10 +8,11 @@ ghost use Rattle.amq_model.specs.Legal.{rolled_back, AreLegalOfRefused, end_of};
 ghost use Rattle.amq_model.specs.Leaves.{Told};
 ghost use Rattle.amq_io.specs.Cause.{NoneFailed};
 ghost use Rattle.amq_tx.specs.Tables.{state_of};
-ghost use Rattle.amq_pool.specs.Pools.{ids_of};
+ghost use Rattle.amq_pool.specs.Pools.{ids_of, numbered_file};
 ghost use Rattle.amq_loader.specs.Loads.{IsStateOf, IsTidy};
 ghost use Rattle.amq_engine.specs.declared.chronicle.Receipted.{Receipted};
 ghost use Rattle.amq_engine.specs.Directory.{files_from};
+ghost use Rattle.amq_engine.specs.DataFiles.{WorkedTo, HasOpenedFiles};
 ghost use Rattle.amq_engine.specs.Receipts.{IsCrashSafe, GoesOn, BeginsBySyncs, StartsWith};
 ghost use Rattle.amq_engine.specs.Engine.{opened, rolling, IsValid, IsBlank, AreSpentAtLast, end_of_tail};
 ghost use Rattle.amq_engine.specs.Opening.{HasBase, AreRolledBack, AreFirstRollbacks, EndsIn, IsFilled, HasOpenCause, HasRollCause, rollbacks_behind};
@@ -54,6 +55,7 @@ fn complete<D: Disk, C: Chronicle>(
     requires begun { (pool.old.prepared ≡ []) × (pool.old.highest ≡ tail.old.file.id) × (end_of_tail tail.old ≡ 16) }
     requires blank { IfSome (C.lists chronicle.old) (λ l. l.steps ≡ []) }
     requires count { files ≤ tail.old.file.id }
+    requires named { tail.old.file ≡ numbered_file pool.old.highest }
     ensures ok { OnOk result ((base : List Placed) → txs.now ≡ rolled_back base
         → IsValid (rolling base 0) (D.past disk.old) (D.moment disk.old) (C.lists chronicle.old) (C.receipt_room chronicle.old) config.now (state_of table.old) pool.old tail.old
         → IsValid (rolling base (length txs.now)) (D.past disk.new) (D.moment disk.new) (C.lists chronicle.new) (C.receipt_room chronicle.new) config.now (state_of table.new) pool.new tail.new) }
@@ -71,6 +73,7 @@ fn complete<D: Disk, C: Chronicle>(
     ensures faults { OnOk result (NoneFailed (D.faults disk.old) (D.faults disk.new)) }
     ensures later { (D.faults disk.old).0 ≤ (D.faults disk.new).0 }
     ensures goes_on { GoesOn (D.past disk.old) (D.past disk.new) }
+    ensures works { OnOk result (WorkedTo true config.now.file_size pool.old.highest pool.old.highest pool.new.highest (D.past disk.old) (D.past disk.new)) }
     ensures tidy { OnOk result (Told (D.past disk.old) IsTidy → Told (D.past disk.new) IsTidy) }
     ensures first { (r : Receipted) → IfSome (C.lists chronicle.old) (StartsWith r) → IfSome (C.lists chronicle.new) (StartsWith r) }
     ensures owed { IfSome (C.lists chronicle.old) (AreOwedToSteps config.now) → IfSome (C.lists chronicle.new) (AreOwedAtOpening config.now) }
@@ -106,6 +109,9 @@ pub fn start<D: Disk, C: Chronicle>(
     ensures rolled { OnOk result (IfSome (C.lists chronicle.new) (λ l. AreRolledBack l.base l.steps)) }
     ensures files { IfOk result (λ s. IfSome (C.lists chronicle.new) (λ l. Told (D.past disk.old) (IsFilled config.now (rolled_back l.base) (history_of l.steps) s.tail.file.id (end_of_tail s.tail) s.pool.highest (ids_of s.pool.prepared)))) }
     ensures faults { OnOk result (NoneFailed (D.faults disk.old) (D.faults disk.new)) }
+    ensures files { IfOk result (λ s. IfSome (C.lists chronicle.new) (λ l. Told (D.past disk.old) (IsFilled config.now (history_of l.steps) s.tail.file.id (end_of_tail s.tail) s.pool.highest (ids_of s.pool.prepared)))) }
+    ensures opened_files { IfOk result (λ s. HasOpenedFiles config.now s.pool.highest (D.past disk.old) (D.past disk.new)) }
+    ensures faults { OnOk result ((D.faults disk.new).1 ≡ (D.faults disk.old).1) }
     ensures later { (D.faults disk.old).0 ≤ (D.faults disk.new).0 }
     ensures cause { IfErr result (λ fault. HasOpenCause config.now fault (C.lists chronicle.new) (D.past disk.old) (D.past disk.new) (D.faults disk.old) (D.faults disk.new)) }
     ensures failed_legal { OnErr result (IfSome (C.lists chronicle.new) (λ l. AreLegalOfRefused l.base l.steps config.now)) }

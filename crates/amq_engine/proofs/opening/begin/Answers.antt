@@ -1,4 +1,4 @@
-use Rattle.std.proofs.Common.{◌≡◌, ◌⊎◌, inl, ◌-◌, ◌^◌, ◌<◌, ◌≤◌, List, [], length, option_map, refl, sym, ap, subst, ◌∙◌, arith}
+use Rattle.std.proofs.Common.{ℕ, ◌≡◌, ◌⊎◌, inl, ◌-◌, ◌^◌, ◌<◌, ◌≤◌, List, [], length, option_map, refl, sym, ap, subst, ◌∙◌, arith}
 use Rattle.std.specs.Prelude.{IfSome}
 use Rattle.amq_model.specs.declared.record.Placed.{Placed}
 use Rattle.amq_model.specs.declared.directory.OpenFault.{OpenFault}
@@ -8,11 +8,12 @@ use Rattle.amq_pool.specs.declared.pool.PoolFile.{PoolFile}
 use Rattle.amq_pool.specs.Pools.{PoolOf}
 use Rattle.amq_engine.specs.Lists.{with_base, with_receipt}
 use Rattle.amq_engine.specs.Engine.{Holds, IsBlank}
-use Rattle.amq_engine.specs.Opening.{HasBase, AreFirstRollbacks, HasOpenCause}
+use Rattle.amq_engine.specs.Opening.{HasBase, AreFirstRollbacks, HasOpenCause, HasNumbers}
 use Rattle.amq_engine.proofs.Begun.{IsNoted, noted, noted_safe, base_now, begun_valid, blank_safe, still_blank, noted_steps, noted_base, noted_unblank, noted_rollbacks, noted_begins, noted_lists, told_begun, behind_fault, when_fine}
 use Rattle.amq_engine.proofs.Commanding.{when_err}
 use Rattle.amq_engine.proofs.Beginning.{begins_blank}
 use Rattle.amq_engine.proofs.Owing.{first_owed, blank_owed}
+use Rattle.amq_engine.proofs.OpenedFiles.{begun_works}
 use Rattle.amq_engine.proofs.opening.begin.Goals as goal
 
 -- where nothing was noted the chronicle is blank
@@ -291,3 +292,16 @@ pub returns-then-is_err-clause-owed : goal.returns-then-is_err-clause-owed
 returns-then-is_err-clause-owed g c =
     let lists = g.C.Chronicle.lists in
     blank_owed c.args.config.now (lists c.args.chronicle.now) (lists c.note.new.chronicle) (when_err c.note.result (lists c.note.new.chronicle ≡ lists c.args.chronicle.now) (sym c.is_err.ensures.value ∙ c.if-is_err.true) c.note.ensures.err) c.requires.blank
+
+pub returns-in-Ok-clause-begun : goal.returns-in-Ok-clause-begun
+returns-in-Ok-clause-begun g c =
+    let past = g.D.Disk.past in
+    let loaded = c.in_ok-loaded.field-0.loaded in
+    (
+      loaded.highest_file,
+      c.in-Ok.ensures.file,
+      ap (λ (p : PoolOf). p.highest) c.in-Ok.ensures.pool,
+      c.in_ok-loaded.ensures.unspent,
+      subst (λ (n : ℕ). Told (past c.args.disk.now) (HasNumbers n loaded.highest_file)) (sym c.len-files.ensures) c.in_ok-loaded.ensures.numbers,
+      begun_works c.args.config.now.file_size loaded.highest_file (past c.args.disk.now) (past c.find.new.disk) (past c.renew.new.disk) c.in_ok-loaded.ensures.unspent c.find.ensures.crash c.in-Ok.ensures.works,
+    )

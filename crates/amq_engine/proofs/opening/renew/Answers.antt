@@ -4,6 +4,8 @@ use Rattle.amq_pool.specs.Pools.{PoolOf, Making, Made}
 use Rattle.amq_engine.proofs.Begun.{kept_cleared, kept_making, reads_begun, told_tidy}
 use Rattle.amq_loader.specs.Bases.{Clears}
 use Rattle.amq_engine.proofs.GoingOn.{goes_by, goes_through}
+use Rattle.amq_engine.proofs.DataFiles.{made_works}
+use Rattle.amq_engine.proofs.OpenedFiles.{renewed_works}
 use Rattle.amq_engine.proofs.opening.renew.Goals as goal
 
 pub returns-in_err-settle_directory-clause-kept : goal.returns-in_err-settle_directory-clause-kept
@@ -61,3 +63,12 @@ returns-clause-goes_on g c =
     let P : PoolOf → Type 0 = λ p. Leaves (Making p.config (p.highest + 1)) (Making p.config (p.highest + 1)) (past c.settle_directory.new.disk) (past c.begin_file.new.disk) in
     goes_through (past c.args.disk.now) (past c.settle_directory.new.disk) (past c.begin_file.new.disk) (goes_by C C (past c.args.disk.now) (past c.settle_directory.new.disk) c.settle_directory.ensures.crash)
     (goes_by M M (past c.settle_directory.new.disk) (past c.begin_file.new.disk) (subst P c.new-pool.ensures.value c.begin_file.ensures.crash))
+
+pub returns-clause-works : goal.returns-clause-works
+returns-clause-works g c =
+    let past = g.D.Disk.past in
+    let h = c.args.loaded.now.highest_file in
+    let config = c.args.config.now in
+    let P : PoolOf → Type 0 = λ p. Leaves (Making p.config (p.highest + 1)) (Made p.config (p.highest + 1)) (past c.settle_directory.new.disk) (past c.begin_file.new.disk) in
+    renewed_works config.file_size h c.args.loaded.now.leftovers (past c.args.disk.now) (past c.settle_directory.new.disk) (past c.begin_file.new.disk) c.requires.number c.requires.left c.settle_directory.ensures.crash
+    (made_works config h c.requires.config c.requires.number (past c.settle_directory.new.disk) (past c.begin_file.new.disk) (subst P c.new-pool.ensures.value c.in_ok-file.ensures.ok))

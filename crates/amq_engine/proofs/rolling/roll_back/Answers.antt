@@ -1,4 +1,4 @@
-use Rattle.std.proofs.Common.{◌≡◌, ℕ, List, [], length, slice_get, refl, sym, ap, subst, ◌∙◌, arith}
+use Rattle.std.proofs.Common.{◌≡◌, ℕ, List, [], length, slice_get, refl, sym, ap, subst, ◌∙◌, arith, true}
 use Rattle.std.specs.Prelude.{take, IfSome}
 use Rattle.std.proofs.lemmas.Option.{slice_get-get_or}
 use Rattle.amq_model.specs.declared.history.Step.{Step}
@@ -11,6 +11,8 @@ use Rattle.amq_engine.proofs.Receipts.{if_some}
 use Rattle.amq_engine.proofs.Started.{on_err}
 use Rattle.amq_engine.proofs.GoingOn.{goes_still, goes_through}
 use Rattle.amq_engine.proofs.Rollbacks.{ArePlaced, placed_next, placed_front, steps_so}
+use Rattle.amq_engine.proofs.DataFiles.{to_still}
+use Rattle.amq_engine.proofs.OpenedFiles.{to_and_then}
 use Rattle.amq_engine.proofs.rolling.roll_back.Goals as goal
 
 pub roll_back_next-requires-clause-ended : goal.roll_back_next-requires-clause-ended
@@ -35,6 +37,8 @@ loop-done-init g c =
       first = λ r starts. starts;
       goes = goes_still (g.D.Disk.past c.args.disk.now);
       owed = λ all. all;
+      named = c.requires.named;
+      works = to_still true c.args.config.now.file_size c.args.pool.now.highest c.args.pool.now.highest (g.D.Disk.past c.args.disk.now) c.requires.valid.1.sound.parts.numbers;
     }
 
 pub roll_back_next-requires-clause-valid : goal.roll_back_next-requires-clause-valid
@@ -67,6 +71,8 @@ loop-done-preserved g c =
       first = λ r starts. c.roll_back_next.ensures.first r (c.loop-done.invariant.first r starts);
       goes = goes_through (g.D.Disk.past c.args.disk.now) (g.D.Disk.past c.loop-done.disk) (g.D.Disk.past c.roll_back_next.new.disk) c.loop-done.invariant.goes c.roll_back_next.ensures.goes_on;
       owed = λ all. c.in_ok-roll_back_next.ensures.owed (c.loop-done.invariant.owed all);
+      named = c.in_ok-roll_back_next.ensures.named;
+      works = to_and_then c.args.config.now.file_size c.args.pool.now.highest c.loop-done.pool.highest c.roll_back_next.new.pool.highest (g.D.Disk.past c.args.disk.now) (g.D.Disk.past c.loop-done.disk) (g.D.Disk.past c.roll_back_next.new.disk) c.loop-done.invariant.works c.in_ok-roll_back_next.ensures.works;
     }
 
 pub returns-clause-ok : goal.returns-clause-ok
@@ -104,3 +110,9 @@ returns-in_err-roll_back_next-clause-failed_owed g c all = on_err _ (IfSome (g.C
 
 pub returns-clause-owed : goal.returns-clause-owed
 returns-clause-owed g c all = c.loop-done.invariant.owed all
+
+pub returns-clause-named : goal.returns-clause-named
+returns-clause-named g c = c.loop-done.invariant.named
+
+pub returns-clause-works : goal.returns-clause-works
+returns-clause-works g c = c.loop-done.invariant.works

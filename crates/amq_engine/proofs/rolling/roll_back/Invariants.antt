@@ -1,4 +1,4 @@
-use Rattle.std.proofs.Common.{◌≡◌, ◌≤◌, List, [], option_map, IfSome}
+use Rattle.std.proofs.Common.{◌≡◌, ◌≤◌, true, List, [], option_map, IfSome}
 use Rattle.amq_model.specs.declared.record.Placed.{Placed}
 use Rattle.amq_model.specs.Answers.{history_of}
 use Rattle.amq_model.specs.Legal.{rolled_back}
@@ -12,6 +12,8 @@ use Rattle.amq_engine.specs.Engine.{rolling, IsValid, end_of_tail}
 use Rattle.amq_engine.specs.Opening.{EndsIn}
 use Rattle.amq_engine.proofs.Rollbacks.{ArePlaced}
 use Rattle.amq_engine.specs.Owed.{AreOwedToSteps}
+use Rattle.amq_pool.specs.Pools.{numbered_file}
+use Rattle.amq_engine.specs.DataFiles.{WorkedTo}
 use Rattle.amq_engine.proofs.rolling.roll_back.Given as goal
 
 abbrev pub invariant-loop-done : goal.invariant-loop-done
@@ -30,4 +32,6 @@ invariant-loop-done g l = record {
   first : (r : Receipted) → IfSome (g.C.Chronicle.lists l.fn.chronicle) (StartsWith r) → IfSome (g.C.Chronicle.lists l.chronicle) (StartsWith r);
   goes : GoesOn (g.D.Disk.past l.fn.disk) (g.D.Disk.past l.disk);
   owed : IfSome (g.C.Chronicle.lists l.fn.chronicle) (AreOwedToSteps l.fn.config) → IfSome (g.C.Chronicle.lists l.chronicle) (AreOwedToSteps l.fn.config);
+  named : l.tail.file ≡ numbered_file l.pool.highest;
+  works : WorkedTo true l.fn.config.file_size l.fn.pool.highest l.fn.pool.highest l.pool.highest (g.D.Disk.past l.fn.disk) (g.D.Disk.past l.disk);
 }

@@ -1,5 +1,5 @@
-use Rattle.std.proofs.Common.{◌≡◌, ◌+◌, ◌≤◌, ℕ, Bool, true, [], ◌∷◌, ◌++◌, length, List, Option, None, Some, refl, sym, ap, subst, ◌∙◌, arith}
-use Rattle.std.specs.Prelude.{IfSome, is_some, option_map}
+use Rattle.std.proofs.Common.{◌≡◌, ◌+◌, ◌≤◌, ℕ, Bool, true, [], ◌∷◌, ◌++◌, length, List, Option, None, Some, refl, sym, ap, subst, ◌∙◌, arith, cond}
+use Rattle.std.specs.Prelude.{IfSome, is_some, option_map, ◌&&◌}
 use Rattle.amq_model.specs.declared.record.Placed.{Placed}
 use Rattle.amq_model.specs.declared.record.Record.TheVariants as rec
 use Rattle.amq_model.specs.declared.command.Command.TheVariants.{Rollback}
@@ -11,9 +11,9 @@ use Rattle.amq_tx.specs.State.{TxState}
 use Rattle.amq_tx.specs.Tables.{state_of}
 use Rattle.amq_tx.specs.Refusing.{refusal_in}
 use Rattle.amq_engine.specs.declared.tail.Tail.{Tail}
-use Rattle.amq_pool.specs.Pools.{ids_of}
+use Rattle.amq_pool.specs.Pools.{ids_of, PoolOf, numbered_file}
 use Rattle.amq_engine.specs.Lists.{Lists, with_step, steps_in}
-use Rattle.amq_engine.specs.Engine.{rolling, IsValid, end_of_tail, passes, spent, refused, flushes, placed_behind}
+use Rattle.amq_engine.specs.Engine.{rolling, IsValid, end_of_tail, passes, spent, refused, flushes, placed_behind, is_nil}
 use Rattle.amq_engine.specs.Opening.{NeedsFile, rollback_behind, EndsIn}
 use Rattle.amq_model.specs.Answers.{history_of}
 use Rattle.amq_engine.proofs.Sound.{sound_there, sound_within}
@@ -21,7 +21,11 @@ use Rattle.amq_engine.proofs.Commanding.{when_ok, few_appends, count_fits, put_f
 use Rattle.amq_engine.proofs.RollingBack.{accepts_next, refused_spent, roll_spent, rolled_ends, valid_rolled}
 use Rattle.amq_engine.proofs.GoingOn.{goes_still}
 use Rattle.amq_engine.proofs.Owing.{owed_in_opening, owed_same, owed_failed, owed_rolled}
-use Rattle.amq_engine.proofs.FilesTold.{sound_start}
+use Rattle.amq_engine.proofs.FilesTold.{sound_start, readied_most}
+use Rattle.amq_model.specs.declared.config.Config.{Config}
+use Rattle.amq_pool.specs.declared.pool.PoolFile.{PoolFile}
+use Rattle.amq_engine.specs.DataFiles.{WorkedTo}
+use Rattle.amq_engine.proofs.OpenedFiles.{named_ready, rolled_to}
 use Rattle.amq_engine.proofs.Beginning.{starts_same, starts_failed, starts_step, starts_receipted}
 use Rattle.amq_engine.proofs.Rollbacks.{placed_is, same_steps, steps_failed, steps_more}
 use Rattle.amq_engine.proofs.rolling.roll_back_next.Goals as goal
@@ -237,3 +241,29 @@ returns-clause-owed g c all =
 
 pub ready-requires-clause-start : goal.ready-requires-clause-start
 ready-requires-clause-start g c = sound_start c.args.config.now (state_of c.args.table.now) c.args.pool.now c.args.tail.now c.requires.valid.1.sound.parts
+
+pub returns-clause-named : goal.returns-clause-named
+returns-clause-named g c =
+    let e = c.args in
+    ap (λ (t : Tail). t.file) c.put_record-reply.ensures.tail ∙ ap (λ (t : Tail). t.file) c.in_default.ensures.ok
+    ∙ named_ready c.passes-moves.result (flushes e.tail.now.buffer.capacity (length e.tail.now.buffer.bytes) (Rollback e.tx)) e.pool.now e.tail.now c.requires.begun.0 c.requires.named
+    ∙ sym (ap (λ (p : PoolOf). numbered_file p.highest) c.in_default.ensures.pool)
+
+pub returns-clause-works : goal.returns-clause-works
+returns-clause-works g c =
+    let e = c.args in
+    let lists = g.C.Chronicle.lists in
+    let room = g.C.Chronicle.receipt_room in
+    let past = g.D.Disk.past e.disk.now in
+    let moment = g.D.Disk.moment e.disk.now in
+    let table = state_of c.make_room.new.table in
+    let stage = rolling c.requires.valid.0 e.done in
+    let same : IsValid stage past moment (lists c.make_room.new.chronicle) (room c.make_room.new.chronicle) e.config.now table e.pool.now e.tail.now =
+    subst (λ (s : TxState). IsValid stage past moment (lists c.make_room.new.chronicle) (room c.make_room.new.chronicle) e.config.now s e.pool.now e.tail.now) (sym c.make_room.ensures.table)
+    (valid_room stage past moment (lists e.chronicle.now) (lists c.make_room.new.chronicle) (room e.chronicle.now) (room c.make_room.new.chronicle) e.config.now (state_of e.table.now) e.pool.now e.tail.now c.make_room.ensures.lists c.make_room.ensures.room c.requires.valid.1) in
+    let valid : IsValid stage (g.D.Disk.past c.ready.new.disk) (g.D.Disk.moment c.ready.new.disk) (lists c.ready.new.chronicle) (room c.ready.new.chronicle) e.config.now table c.ready.new.pool c.ready.new.tail = c.ready.ensures.valid stage e.config.now table same in
+    let h = e.pool.now.highest in
+    let most = cond (c.passes-moves.result && is_nil e.pool.now.prepared) (h + 1) h in
+    subst (λ (k : Config). WorkedTo true k.file_size h h c.ready.new.pool.highest past (g.D.Disk.past c.ready.new.disk)) c.requires.valid.1.sound.parts.same_config
+    (rolled_to e.tail.now.file.name e.pool.now.config.file_size h most c.ready.new.pool.highest past (g.D.Disk.past c.ready.new.disk) (ap (λ (f : PoolFile). f.name) c.requires.named)
+    (sym (ap (λ (p : PoolOf). p.highest) c.in_default.ensures.pool ∙ readied_most c.passes-moves.result e.pool.now)) valid.sound.parts.numbers c.in_default.ensures.works)

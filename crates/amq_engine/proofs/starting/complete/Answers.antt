@@ -1,4 +1,4 @@
-use Rattle.std.proofs.Common.{◌≡◌, ℕ, List, ◌+◌, ◌-◌, ◌^◌, length, sym, ap, ◌∙◌}
+use Rattle.std.proofs.Common.{◌≡◌, ℕ, List, ◌+◌, ◌-◌, ◌^◌, length, sym, ap, ◌∙◌, true, subst}
 use Rattle.std.specs.Prelude.{min, take, is_ok, is_some}
 use Rattle.amq_model.specs.declared.history.Step.{Step}
 use Rattle.amq_model.specs.Answers.{history_of}
@@ -9,6 +9,10 @@ use Rattle.amq_engine.proofs.Sound.{sound_there, sound_within}
 use Rattle.amq_engine.specs.Opening.{rollbacks_behind}
 use Rattle.amq_engine.proofs.Started.{filled_by}
 use Rattle.amq_engine.proofs.Rollbacks.{same_steps, steps_so}
+use Rattle.amq_model.specs.declared.config.Config.{Config}
+use Rattle.amq_pool.specs.declared.pool.PoolFile.{PoolFile}
+use Rattle.amq_engine.specs.DataFiles.{WorkedTo}
+use Rattle.amq_engine.proofs.OpenedFiles.{to_and_then, put_to, further_to}
 use Rattle.amq_engine.proofs.FilesTold.{sound_start}
 use Rattle.amq_engine.proofs.GoingOn.{goes_through}
 use Rattle.amq_engine.proofs.Beginning.{starts_receipted}
@@ -135,3 +139,17 @@ pub fill_pool-requires : goal.fill_pool-requires
 fill_pool-requires g c =
     let v = c.in_ok-roll_back.ensures.ok c.requires.valid.0 c.requires.valid.2 c.requires.valid.1 in
     record { numbers = v.sound.parts.numbers }
+
+pub returns-in-Ok-clause-works : goal.returns-in-Ok-clause-works
+returns-in-Ok-clause-works g c =
+    let past = g.D.Disk.past in
+    let config = c.args.config.now in
+    let v = c.in_ok-roll_back.ensures.ok c.requires.valid.0 c.requires.valid.2 c.requires.valid.1 in
+    let first = c.args.pool.now.highest in
+    let mid = c.roll_back.new.pool.highest in
+    let rolled = c.in_ok-roll_back.ensures.works in
+    let put = put_to c.roll_back.new.tail.file.name config.file_size mid (past c.roll_back.new.disk) (past c.write_out.new.disk) (ap (λ (f : PoolFile). f.name) c.in_ok-roll_back.ensures.named) v.sound.parts.numbers (c.write_out.ensures.works config.file_size mid) in
+    let filled = subst (λ (k : Config). WorkedTo true k.file_size (mid + 1) mid c.fill_pool.new.pool.highest (past c.write_out.new.disk) (past c.fill_pool.new.disk)) v.sound.parts.same_config c.in-Ok.ensures.works in
+    to_and_then config.file_size first mid c.fill_pool.new.pool.highest (past c.args.disk.now) (past c.write_out.new.disk) (past c.fill_pool.new.disk)
+    (to_and_then config.file_size first mid mid (past c.args.disk.now) (past c.roll_back.new.disk) (past c.write_out.new.disk) rolled put)
+    (further_to config.file_size mid c.fill_pool.new.pool.highest (past c.write_out.new.disk) (past c.fill_pool.new.disk) filled)

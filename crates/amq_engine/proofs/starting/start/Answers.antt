@@ -1,4 +1,4 @@
-use Rattle.std.proofs.Common.{◌≡◌, ◌⊎◌, inl, ℕ, ◌+◌, ◌-◌, ◌^◌, List, [], length, refl, sym, ap, subst, ◌∙◌, rules}
+use Rattle.std.proofs.Common.{◌≡◌, ◌⊎◌, inl, ℕ, ◌+◌, ◌-◌, ◌^◌, List, [], length, refl, sym, ap, subst, ◌∙◌, rules, true}
 use Rattle.std.specs.Prelude.{Err, IfErr, IfSome, min, take}
 use Rattle.amq_model.specs.declared.history.Step.{Step}
 use Rattle.amq_model.specs.Answers.{history_of}
@@ -19,6 +19,10 @@ use Rattle.amq_engine.proofs.RollingBack.{rolled_safe}
 use Rattle.amq_engine.proofs.Begun.{still_blank}
 use Rattle.amq_engine.proofs.Rollbacks.{both_so, placed_all, told_rollbacks}
 use Rattle.amq_engine.proofs.Started.{told_filled, valid_base, valid_rolled_back, valid_appended, valid_noted, valid_spent, on_err, same_base, roll_cause, unblank}
+use Rattle.amq_pool.specs.declared.pool.PoolFile.{PoolFile}
+use Rattle.amq_pool.specs.Pools.{numbered_file}
+use Rattle.amq_engine.specs.DataFiles.{WorkedTo}
+use Rattle.amq_engine.proofs.OpenedFiles.{opened_works, enough_by}
 use Rattle.amq_engine.proofs.starting.start.Goals as goal
 
 -- nothing was asked
@@ -202,3 +206,30 @@ pub returns-clause-ends : goal.returns-clause-ends
 returns-clause-ends g c =
     let t = c.complete.new.tail in
     if_some (λ l. EndsIn c.in_ok-table.field-0.file.id (history_of l.steps) t.file.id (end_of_tail t)) (λ l. end_of_tail t ≡ end_of (history_of l.steps)) (g.C.Chronicle.lists c.complete.new.chronicle) (λ l ends. ends.1) c.in_ok-complete.ensures.ends
+
+pub complete-requires-clause-named : goal.complete-requires-clause-named
+complete-requires-clause-named g c =
+    let begun = c.in_ok-table.ensures.begun in
+    begun.1 ∙ sym (ap (λ (n : ℕ). numbered_file n) begun.2)
+
+pub returns-clause-opened_files : goal.returns-clause-opened_files
+returns-clause-opened_files g c =
+    let past = g.D.Disk.past in
+    let config = c.args.config.now in
+    let began = c.in_ok-table.ensures.valid c.in-Ok.buffer c.in-Ok.ensures in
+    let same : c.as_slice.result.now ≡ rolled_back began.0 = c.as_slice.ensures.value ∙ began.2 in
+    let valid = c.in_ok-complete.ensures.ok began.0 same began.1 in
+    let begun = c.in_ok-table.ensures.begun in
+    let first = c.in_ok-table.field-0.file.id in
+    let files = c.in_ok-table.field-0.files in
+    let tail = c.complete.new.tail in
+    let highest = c.complete.new.pool.highest in
+    let to = subst (λ (n : ℕ). WorkedTo true config.file_size n n highest (past c.begin.new.disk) (past c.complete.new.disk)) begun.2 c.in_ok-complete.ensures.works in
+    record {
+      files = files;
+      before = begun.0;
+      had = begun.4;
+      works = opened_works config.file_size begun.0 highest (past c.args.disk.now) (past c.begin.new.disk) (past c.complete.new.disk) begun.5 to;
+      enough = enough_by config files begun.0 first tail.file.id highest (min (config.min_files - (files + (tail.file.id + 1 - first))) (2 ^ 31 - 1 - tail.file.id)) (ap (λ (f : PoolFile). f.id) begun.1) c.in_ok-complete.ensures.later_file valid.sound.parts.numbers refl c.in_ok-complete.ensures.filled.0;
+      most = valid.sound.parts.numbers;
+    }
