@@ -109,9 +109,7 @@ pub fn start<D: Disk, C: Chronicle>(
     ensures rolled { OnOk result (IfSome (C.lists chronicle.new) (λ l. AreRolledBack l.base l.steps)) }
     ensures files { IfOk result (λ s. IfSome (C.lists chronicle.new) (λ l. Told (D.past disk.old) (IsFilled config.now (rolled_back l.base) (history_of l.steps) s.tail.file.id (end_of_tail s.tail) s.pool.highest (ids_of s.pool.prepared)))) }
     ensures faults { OnOk result (NoneFailed (D.faults disk.old) (D.faults disk.new)) }
-    ensures files { IfOk result (λ s. IfSome (C.lists chronicle.new) (λ l. Told (D.past disk.old) (IsFilled config.now (history_of l.steps) s.tail.file.id (end_of_tail s.tail) s.pool.highest (ids_of s.pool.prepared)))) }
     ensures opened_files { IfOk result (λ s. HasOpenedFiles config.now s.pool.highest (D.past disk.old) (D.past disk.new)) }
-    ensures faults { OnOk result ((D.faults disk.new).1 ≡ (D.faults disk.old).1) }
     ensures later { (D.faults disk.old).0 ≤ (D.faults disk.new).0 }
     ensures cause { IfErr result (λ fault. HasOpenCause config.now fault (C.lists chronicle.new) (D.past disk.old) (D.past disk.new) (D.faults disk.old) (D.faults disk.new)) }
     ensures failed_legal { OnErr result (IfSome (C.lists chronicle.new) (λ l. AreLegalOfRefused l.base l.steps config.now)) }
