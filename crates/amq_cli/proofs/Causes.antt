@@ -18,7 +18,7 @@ cause_behind S {T = T} refusal result a b c before is cause = subst (λ (x : Res
   by : (refusal : Refusal) → HasReplayCause {T = S} (Err refusal) b c → HasReplayCause {T = T} (Err refusal) a c
   by (r.Disk call) cause = (omega (arith, before.0, cause.0), cause.1)
   by r.NoMemory (inl none) = inl (none_further a b c before none)
-  by r.NoMemory (inr rose) = inr (omega (arith, before.0, rose))
+  by r.NoMemory (inr failed) = inr (omega (arith, before.0, failed.0), failed.1)
   by (r.Closed fault) cause = none_further a b c before cause
   by (r.TooLarge len limit) cause = none_further a b c before cause
   by (r.NoTx tx) cause = none_further a b c before cause
@@ -32,7 +32,7 @@ cause_behind S {T = T} refusal result a b c before is cause = subst (λ (x : Res
 
 -- the cause of a line for which there is no memory
 pub cause_short : (S T : Type 0) (refusal : Refusal) (a b : Faults) → HasCause {T = S} (Err refusal) a b → HasReplayCause {T = T} (Err r.NoMemory) a b
-cause_short S T (r.Disk call) a b cause = inr cause.0
+cause_short S T (r.Disk call) a b cause = inr (cause.0, (call, cause.1))
 cause_short S T r.NoMemory a b cause = inl cause
 cause_short S T (r.Closed fault) a b cause = inl cause
 cause_short S T (r.TooLarge len limit) a b cause = inl cause

@@ -18,7 +18,7 @@ for_memory : HasReplayCause (refused r.NoMemory) (3, Some Read) (3, Some Read)
 for_memory = inl (refl, refl)
 
 no_memory_for_its_line : HasReplayCause (refused r.NoMemory) (3, Some Read) (4, Some Sync)
-no_memory_for_its_line = inr (omega arith)
+no_memory_for_its_line = inr (omega arith, (Sync, refl))
 
 -- no other refusal hides a call that failed
 not_behind_a_failed_call : HasReplayCause (refused (r.NoTx 5)) (3, Some Read) (4, Some Sync) → ⊥

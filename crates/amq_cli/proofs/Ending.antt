@@ -97,9 +97,9 @@ module _ {D : Type 0} (timeout : ℕ) where
 
   -- a line was answered, and there was no memory for its text
   pub line_unwritten : (done : List Line) (line : Line) (answer : Option Answer) (labels labels' : List ℕ → ℕ) (number number' : ℕ) (old new : EngineOf D Kept) (before after : List ℕ) → HasPlayed timeout done labels number old before
-      → ((answered : List Answered) → AreNumbersOf labels answered → IsPlaying timeout answered number old → IsPlaying timeout (answered ++ (line, answer) ∷ []) number' new × AreNumbersOf labels' (answered ++ (line, answer) ∷ [])) → after ≡ before
+      → ((answered : List Answered) → AreNumbersOf labels answered → IsPlaying timeout answered number old → IsPlaying timeout (answered ++ (line, answer) ∷ []) number' new × AreNumbersOf labels' (answered ++ (line, answer) ∷ [])) → after ≡ before → 0 < length (line_of (line, answer))
       → HasEnded timeout (done ++ line ∷ []) new.chronicle.steps.items new.chronicle.receipts.items after [] true
-  line_unwritten done line answer labels labels' number number' old new before after was goes is =
+  line_unwritten done line answer labels labels' number number' old new before after was goes is some =
       let all : List Answered = was.answered ++ (line, answer) ∷ [] in
       let lines : map (λ (x : Answered). x.0) all ≡ done ++ line ∷ [] = map-append (λ (x : Answered). x.0) was.answered ((line, answer) ∷ []) ∙ ap (λ (ls : List Line). ls ++ line ∷ []) was.lines in
       record {
@@ -108,7 +108,7 @@ module _ {D : Type 0} (timeout : ℕ) where
         rest = line_of (line, answer);
         is = ap (λ (t : List ℕ). t ++ line_of (line, answer)) (is ∙ was.is) ∙ sym (lines_more was.answered (line, answer)) ∙ sym (append-nil (reply_lines all));
         whole = inl refl;
-        early = inl refl;
+        early = inl (refl, some);
       }
 
   -- a line ended the replay
@@ -162,7 +162,7 @@ ended_more timeout front more steps receipts text ending short e =
       whole = e.whole;
       early = by e.early;
     } where
-      by : (short ≡ true) ⊎ (length e.answered < length front) → (short ≡ true) ⊎ (length e.answered < length (front ++ more))
+      by : ((short ≡ true) × (0 < length e.rest)) ⊎ (length e.answered < length front) → ((short ≡ true) × (0 < length e.rest)) ⊎ (length e.answered < length (front ++ more))
       by (inl memory) = inl memory
       by (inr lt) = inr (omega (arith, lt, length-append front more))
 

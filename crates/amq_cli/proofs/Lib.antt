@@ -15,5 +15,6 @@ pub mod Recovering
 pub mod Beginning
 pub mod Digits
 pub mod Causes
+pub mod Short
 pub mod EndedExamples
 pub mod CountsExamples

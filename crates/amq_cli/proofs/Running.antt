@@ -12,7 +12,7 @@ use Rattle.amq_model.specs.declared.record.Placed.{Placed}
 use Rattle.amq_model.specs.declared.state.LoadState.{LoadState}
 use Rattle.amq_model.specs.Answers.{history_of}
 use Rattle.amq_model.specs.Calls.{Past}
-use Rattle.amq_model.specs.Legal.{OpensPartly, rolled_back}
+use Rattle.amq_model.specs.Legal.{OpensPartly, rolled_back, end_of}
 use Rattle.amq_model.specs.Texts.{refusal_line, report_of}
 use Rattle.amq_io.specs.Cause.{Rose, Faults}
 use Rattle.amq_engine.specs.declared.chronicle.Receipted.{Receipted}
@@ -27,16 +27,14 @@ use Rattle.amq_cli.specs.declared.status.Status.{Status}
 use Rattle.amq_cli.specs.declared.status.Status.TheVariants as s
 use Rattle.amq_cli.specs.Statuses.{status_of, status_of_opening}
 use Rattle.amq_cli.specs.Ended.{HasReplayCause}
-use Rattle.amq_cli.specs.Playing.{HasPlayed}
+use Rattle.amq_cli.specs.Playing.{HasPlayed, IsOwing}
 use Rattle.amq_cli.specs.Offline.{lists_of, HasText, HasRunOn, IsEnding, IsDiskLine, IsLoadedState, AreAll, HasDiskCause, HasRunCause, is_of_refused}
 use Rattle.amq_cli.specs.Replay.{Answered, reply_lines, AreAnswered, AreNumbered, HasEnded, HasReplayed, IsLast, IsClosedBy, is_for_memory, own, rolled}
 use Rattle.amq_cli.proofs.Answering.{no_step, last_receipted}
 use Rattle.std.specs.List.{list_any}
-use Rattle.amq_model.specs.Legal.{end_of}
 use Rattle.amq_engine.specs.Owed.{waiting_behind, IsOwedAtOpening, AreOwedAtOpening}
 use Rattle.amq_engine.proofs.Owing.{begin_weaker}
 use Rattle.amq_cli.specs.Owed.{IsOwedSoFar, IsOwed, HasOwed}
-use Rattle.amq_cli.specs.Playing.{IsOwing}
 use Rattle.amq_cli.proofs.Owing.{waiting_none, counts_opening, begun_counts}
 use Rattle.amq_cli.proofs.Ending.{answered_more}
 
@@ -84,8 +82,8 @@ refused_text timeout status Loaded lines was now steps receipts text (r.Disk cal
   is = ended.is;
   whole = ended.whole;
 }) where
-  early : (false ≡ true) ⊎ (length ended.answered < length lines) → length ended.answered < length lines
-  early (inl e) = absurd cc
+  early : ((false ≡ true) × (0 < length ended.rest)) ⊎ (length ended.answered < length lines) → length ended.answered < length lines
+  early (inl e) = absurd (let short : false ≡ true = e.0 in cc)
   early (inr lt) = lt
 refused_text timeout status Loaded lines was now steps receipts text r.NoMemory last is named ended = subst (λ (x : Status). HasText timeout x Loaded lines was now steps receipts text) (sym is) (record {
   answered = ended.answered;
@@ -168,7 +166,7 @@ earlier_rose was first now le rose = omega (arith, le, rose)
 earlier_line : (was first now : Faults) (lines : List Line) (answered : List Answered) (ending : List ℕ) → was.0 ≤ first.0 → IsDiskLine first now lines answered ending → IsDiskLine was now lines answered ending
 earlier_line was first now lines answered ending le line = (line.0, earlier_rose was.0 first.0 now.0 le line.1, line.2)
 
-earlier_ending : (status : Status) (Loaded : LoadState → Type 0) (was first now : Faults) (lines : List Line) (answered : List Answered) (ending : List ℕ) → was.0 ≤ first.0 → IsEnding status Loaded first now lines answered ending → IsEnding status Loaded was now lines answered ending
+pub earlier_ending : (status : Status) (Loaded : LoadState → Type 0) (was first now : Faults) (lines : List Line) (answered : List Answered) (ending : List ℕ) → was.0 ≤ first.0 → IsEnding status Loaded first now lines answered ending → IsEnding status Loaded was now lines answered ending
 earlier_ending s.Ok Loaded was first now lines answered ending le ends = ends
 earlier_ending s.SinkFault Loaded was first now lines answered ending le ends = ends
 earlier_ending s.DiskFault Loaded was first now lines answered ending le (inl none) = inl none

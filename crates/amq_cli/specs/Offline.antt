@@ -18,7 +18,7 @@ use Rattle.amq_model.specs.Files.{Files, Image, IsReading}
 use Rattle.amq_model.specs.Leaves.{Told, OnlyAsks, IsThere}
 use Rattle.amq_model.specs.Names.{control_name}
 use Rattle.amq_model.specs.Texts.{report_of, refusal_line}
-use Rattle.amq_io.specs.Cause.{Rose, Faults}
+use Rattle.amq_io.specs.Cause.{Rose, Faults, NoneFailed}
 use Rattle.amq_loader.specs.Loads.{IsFaulty, IsStateOf}
 use Rattle.amq_engine.specs.Engine.{AreAppended}
 use Rattle.amq_engine.specs.Opening.{HasBase, HasNumbers, StandBehind, HasOpenCause}
@@ -157,6 +157,30 @@ pub record HasText (timeout : ℕ) (status : Status) (Loaded : LoadState → Typ
   pub is : text ++ rest ≡ reply_lines answered ++ ending
   pub whole : (is_short status ≡ true) ⊎ (rest ≡ [])
 
+-- ---- want of memory
+
+-- the text is a front of the lines of what was answered
+pub record HasFront (timeout : ℕ) (lines : List Line) (steps : List Step) (receipts : List Receipted) (text : List ℕ) : Type 0 where
+  pub answered : List Answered
+  pub are : AreAnswered timeout lines steps receipts answered
+  pub rest : List ℕ
+  pub is : text ++ rest ≡ reply_lines answered
+
+-- A disk call has failed in a run of these lines, and the text breaks off before the end of what a run writes that ends for it.
+pub record BreaksOff (timeout : ℕ) (lines : List Line) (was now : Faults) (steps : List Step) (receipts : List Receipted) (text : List ℕ) : Type 0 where
+  pub rose : Rose was.0 now.0
+  pub answered : List Answered
+  pub are : AreAnswered timeout lines steps receipts answered
+  pub ending : List ℕ
+  pub ends : IsEnding s.DiskFault (λ state. ⊥) was now lines answered ending
+  pub rest : List ℕ
+  pub is : text ++ rest ≡ reply_lines answered ++ ending
+  pub short : 0 < length rest
+
+-- What a run has left that ended for want of memory, before its text is written: no disk call has failed, and the text is a front of the lines of what was answered; or one has, and the text breaks off.
+abbrev pub IsShortRun : ℕ → List Line → Faults → Faults → List Step → List Receipted → List ℕ → Type 0
+IsShortRun timeout lines was now steps receipts text = (NoneFailed was now × HasFront timeout lines steps receipts text) ⊎ BreaksOff timeout lines was now steps receipts text
+
 -- ---- the whole run
 
 -- the sink has taken this text more, where it tells
@@ -198,12 +222,19 @@ is_past_script (s.FileIdsSpent highest) = true
 is_past_script (s.NotBuilt u.Directory) = true
 is_past_script _ = false
 
+-- What a run with status 8 has left, by the bytes that the sink has taken. No call of the disk or the sink has failed; or only one of the sink has, which took a front of the lines of what was answered; or one of the disk has, and what the sink took breaks off before the end of what a run writes that ends for it.
+pub record HasShort (timeout : ℕ) (lines : List Line) (was now : Faults) (sink_old sink_new : ℕ) (taken_old taken_new : Option (List ℕ)) (steps : List Step) (receipts : List Receipted) : Type 0 where
+  pub bytes : List ℕ
+  pub taken : IsWritten bytes taken_old taken_new
+  pub cause : (NoneFailed was now × (sink_new ≡ sink_old)) ⊎ (NoneFailed was now × HasFront timeout lines steps receipts bytes) ⊎ BreaksOff timeout lines was now steps receipts bytes
+
 -- What was written of a run of these lines, with every status: a front of its text, and all of it unless the sink failed or memory was short.
 pub record IsTextOf (timeout : ℕ) (status : Status) (Loaded : LoadState → Type 0) (lines : List Line) (was now : Faults) (sink_old sink_new : ℕ) (taken_old taken_new : Option (List ℕ)) (steps : List Step) (receipts : List Receipted) : Type 0 where
   pub text : List ℕ
   pub has : HasText timeout status Loaded lines was now steps receipts text
   pub part : IsPartWritten text taken_old taken_new
   pub whole : IsWritten text taken_old taken_new ⊎ Rose sink_old sink_new ⊎ (is_short status ≡ true)
+  pub short : status ≡ s.NoMemory → HasShort timeout lines was now sink_old sink_new taken_old taken_new steps receipts
 
 -- What was written, with every status, by a command that opens the journal: a front of the text of a run of its lines, and all of it unless the sink failed or memory was short. Where the script wasn't read there is no line and no text.
 pub record IsOutput (task : Option Task) (timeout : ℕ) (status : Status) (Loaded : LoadState → Type 0) (left_old left_new : Option (List ℕ)) (was now : Faults) (sink_old sink_new : ℕ) (taken_old taken_new : Option (List ℕ)) (steps : List Step) (receipts : List Receipted) : Type 0 where

@@ -240,14 +240,14 @@ abbrev pub IsClosedBy : Refusal → Option DiskCall → Type 0
 IsClosedBy (r.Disk call) closed = closed ≡ Some call
 IsClosedBy _ closed = Unit {0}
 
--- The text is a front of the lines of what was answered and then of this ending. Unless memory was short it is the whole of them, and a line wasn't answered.
+-- The text is a front of the lines of what was answered and then of this ending: the whole of them where a line wasn't answered and memory wasn't short, and less where all were.
 pub record HasEnded (timeout : ℕ) (lines : List Line) (steps : List Step) (receipts : List Receipted) (text ending : List ℕ) (short : Bool) : Type 0 where
   pub answered : List Answered
   pub are : AreAnswered timeout lines steps receipts answered
   pub rest : List ℕ
   pub is : text ++ rest ≡ reply_lines answered ++ ending
   pub whole : (short ≡ true) ⊎ (rest ≡ [])
-  pub early : (short ≡ true) ⊎ (length answered < length lines)
+  pub early : ((short ≡ true) × (0 < length rest)) ⊎ (length answered < length lines)
 
 -- all lines were answered, and the text has their lines
 pub record HasReplayed (timeout : ℕ) (lines : List Line) (steps : List Step) (receipts : List Receipted) (text : List ℕ) : Type 0 where

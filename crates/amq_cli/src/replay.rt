@@ -1,5 +1,5 @@
 //! Running the lines of a script on a journal.
-ghost use Rattle.std.specs.Prelude.{◌≡◌, ◌+◌, ◌-◌, ◌^◌, ◌<◌, ◌≤◌, ◌++◌, ◌∷◌, [], List, All, IsTrue, None, Some, Ok, Err, IfOk, IfErr, OnOk, OnErr};
+ghost use Rattle.std.specs.Prelude.{◌≡◌, ◌+◌, ◌-◌, ◌^◌, ◌<◌, ◌≤◌, ◌++◌, ◌∷◌, [], length, List, All, IsTrue, None, Some, Ok, Err, IfOk, IfErr, OnOk, OnErr};
 ghost use Rattle.amq_model.specs.declared.script.Line.{Line};
 ghost use Rattle.amq_model.specs.Texts.{refusal_line};
 ghost use Rattle.amq_engine.specs.Engine.{HasCause, is_noted};
@@ -214,6 +214,7 @@ fn answer_line<D: Disk>(
 fn push_outcome(text: &mut Vec<u8>, outcome: &Outcome) -> Result<(), NoMemory>
     ensures ok { OnOk result (text.new.items ≡ text.old.items ++ text_in outcome.now) }
     ensures err { OnErr result (text.new.items ≡ text.old.items) }
+    ensures some { OnErr result (0 < length (text_in outcome.now)) }
 {
     match outcome {
         Outcome::Answered(answer) => push_answer(text, answer),

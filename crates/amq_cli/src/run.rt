@@ -7,7 +7,7 @@ ghost use Rattle.amq_engine.specs.Engine.{IsBlank, AreAppended, AreSpentAtLast};
 ghost use Rattle.amq_engine.specs.Opening.{HasBase, StandsFrom, StandBehind};
 ghost use Rattle.amq_model.specs.Leaves.{Leaves, Unchanged, LeavesNothingNew, Told};
 ghost use Rattle.amq_engine.specs.Receipts.{IsCrashSafe, IsLastCount, GoesOn, BeginsBySyncs};
-ghost use Rattle.amq_cli.specs.Offline.{lists_of, HasLegal, HasRolledBack, AreInNewFiles, HasRun, HasRunCause, HasText, IsLoadedState, IsReported, HasRunOn, HasDiskCause, is_unwritten};
+ghost use Rattle.amq_cli.specs.Offline.{lists_of, HasLegal, HasRolledBack, AreInNewFiles, HasRun, HasRunCause, HasText, IsLoadedState, IsReported, HasRunOn, HasDiskCause, is_unwritten, IsShortRun};
 ghost use Rattle.amq_cli.specs.Owed.{HasOwed};
 ghost use Rattle.amq_cli.specs.Counts.{HasDiskCount, HasLoadCount};
 ghost use Rattle.amq_cli.specs.Playing.{HasPlayed, KeepsFirst};
@@ -40,6 +40,7 @@ pub fn run<D: Disk>(
     ensures unbuilt { is_unwritten result.0 ≡ true → text.new.items ≡ [] }
     ensures silent { result.2.receipts.items ≡ [] → text.new.items ≡ [] }
     ensures count { HasDiskCount result.0 (D.faults disk) (D.faults result.1) }
+    ensures short { result.0 ≡ Status.NoMemory → IsShortRun config.buffer_timeout lines.items (D.faults disk) (D.faults result.1) result.2.steps.items result.2.receipts.items text.new.items }
     ensures cause { HasRunCause config (lists_of result.2) result.0 (D.past disk) (D.past result.1) (D.faults disk) (D.faults result.1) }
     ensures legal { HasLegal result.0 config result.2.base result.2.steps.items (text.new.items ≡ []) }
     ensures later { (D.faults disk).0 ≤ (D.faults result.1).0 }
@@ -83,6 +84,7 @@ fn run_on<D: Disk>(
     ensures run { result.0 ≡ Status.Ok → HasRunOn engine.config lines.items text.new.items (D.past result.1) result.2.base result.2.steps.items result.2.receipts.items }
     ensures text { HasText engine.config.buffer_timeout result.0 (IsLoadedState (D.past result.1) engine.config.user_version result.2.base result.2.steps.items) lines.items (D.faults engine.disk) (D.faults result.1) result.2.steps.items result.2.receipts.items text.new.items }
     ensures count { HasDiskCount result.0 (D.faults engine.disk) (D.faults result.1) }
+    ensures short { result.0 ≡ Status.NoMemory → IsShortRun engine.config.buffer_timeout lines.items (D.faults engine.disk) (D.faults result.1) result.2.steps.items result.2.receipts.items text.new.items }
     ensures cause { HasDiskCause result.0 (D.faults engine.disk) (D.faults result.1) }
     ensures base { result.2.base ≡ engine.chronicle.base }
     ensures legal { AreLegal result.2.base result.2.steps.items engine.config }

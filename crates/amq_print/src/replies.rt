@@ -1,4 +1,4 @@
-ghost use Rattle.std.specs.Prelude.{◌≡◌, ◌++◌, OnOk, OnErr};
+ghost use Rattle.std.specs.Prelude.{◌≡◌, ◌<◌, ◌++◌, length, OnOk, OnErr};
 ghost use Rattle.amq_model.specs.Texts.{reply_line, refusal_line, bound_line, disk_call_name, phase_name};
 
 use crate::words::Word::{Number, Text};
@@ -7,10 +7,11 @@ use amq_model::{Answer, DiskCall, NoMemory, Phase, Refusal, Reply};
 
 /// Appends the line of what a command was answered; a refusal for want of memory has no line.
 ///
-/// After `NoMemory` the text is as before.
+/// After `NoMemory` the text is as before, and the line has bytes.
 pub fn push_answer(out: &mut Vec<u8>, answer: &Answer) -> Result<(), NoMemory>
     ensures ok { OnOk result (out.new.items ≡ out.old.items ++ reply_line answer.now) }
     ensures err { OnErr result (out.new.items ≡ out.old.items) }
+    ensures some { OnErr result (0 < length (reply_line answer.now)) }
 {
     match *answer {
         Answer::Done(Reply::Appended { place }) => push_line(out, &[Text("ok"), Number(place)]),
@@ -28,6 +29,7 @@ pub fn push_answer(out: &mut Vec<u8>, answer: &Answer) -> Result<(), NoMemory>
 pub fn push_bound(out: &mut Vec<u8>, tx: u64) -> Result<(), NoMemory>
     ensures ok { OnOk result (out.new.items ≡ out.old.items ++ bound_line tx) }
     ensures err { OnErr result (out.new.items ≡ out.old.items) }
+    ensures some { OnErr result (0 < length (bound_line tx)) }
 {
     push_line(out, &[Text("bound"), Number(tx)])
 }
@@ -36,6 +38,7 @@ pub fn push_bound(out: &mut Vec<u8>, tx: u64) -> Result<(), NoMemory>
 fn push_refusal(out: &mut Vec<u8>, refusal: Refusal) -> Result<(), NoMemory>
     ensures ok { OnOk result (out.new.items ≡ out.old.items ++ refusal_line refusal) }
     ensures err { OnErr result (out.new.items ≡ out.old.items) }
+    ensures some { OnErr result (0 < length (refusal_line refusal)) }
 {
     let refused = Text("refused");
     match refusal {

@@ -1,5 +1,5 @@
 //! Lines of words.
-ghost use Rattle.std.specs.Prelude.{◌≤◌, ◌≡◌, ◌++◌, ◌∷◌, [], OnOk, OnErr, length, take, map};
+ghost use Rattle.std.specs.Prelude.{◌<◌, ◌≤◌, ◌≡◌, ◌++◌, ◌∷◌, [], OnOk, OnErr, length, take, map};
 ghost use Rattle.std.specs.List.{flat_map, join_with_byte};
 ghost use Rattle.amq_model.specs.Texts.{line, hex, hex_digits};
 ghost use Rattle.amq_print.specs.Words.{word_text};
@@ -26,6 +26,7 @@ pub enum Word<'a> {
 pub fn push_line(out: &mut Vec<u8>, words: &[Word]) -> Result<(), NoMemory>
     ensures ok { OnOk result (out.new.items ≡ out.old.items ++ line (map word_text words.now)) }
     ensures err { OnErr result (out.new.items ≡ out.old.items) }
+    ensures some { 0 < length (line (map word_text words.now)) }
 {
     let kept = out.len();
     match write_line(out, words) {

@@ -26,7 +26,7 @@ returns-in-Err-clause-output g c opens =
       | in-Some-Settle w ↦ short_ends status loaded faults faults (subst (λ r. IfErr r (λ s. s ≡ NoMemory)) (sym w.lines-is ∙ c.in-Err.is) w.one_line-lines.ensures.memory)
       | in-None w ↦ asking_ends status loaded faults faults (search rules)
     ] in
-    no_output _ c.args.config.buffer_timeout status loaded (left c.args.source.now) (left c.match-task_of.source) faults faults (g.K.Sink.faults c.args.sink.now) (g.K.Sink.taken c.args.sink.now) c.new-in-Err.result.steps.items c.new-in-Err.result.receipts.items (search rules) ends.0 ends.1
+    no_output _ c.args.config.buffer_timeout status loaded (left c.args.source.now) (left c.match-task_of.source) faults faults (g.K.Sink.faults c.args.sink.now) (g.K.Sink.taken c.args.sink.now) c.new-in-Err.result.steps.items c.new-in-Err.result.receipts.items (search rules) (refl, refl) ends.0 ends.1
 
 pub returns-in-Some-Print-clause-begins : goal.returns-in-Some-Print-clause-begins
 returns-in-Some-Print-clause-begins g c =

@@ -1,4 +1,4 @@
-use Rattle.std.proofs.Common.{[], ◌++◌, true, sym, ap, ◌∙◌}
+use Rattle.std.proofs.Common.{[], ◌++◌, true, sym, ap, ◌∙◌, ◌<◌, ℕ, List, length, subst}
 use Rattle.std.proofs.lemmas.List.{append-nil}
 use Rattle.amq_model.specs.Texts.{refusal_line}
 use Rattle.amq_cli.specs.Replay.{is_for_memory}
@@ -21,6 +21,7 @@ returns-in-Err-push_outcome-clause-ended g c done was =
     let before = c.args.text.now.items in
     let after = c.push_outcome.new.text.items in
     line_unwritten c.args.engine.now.config.buffer_timeout done c.args.line (answer_in c.in-Ok.outcome) (number_in c.args.labels.now) (number_in c.answer_line.new.labels) c.args.number.now c.answer_line.new.number c.args.engine.now c.answer_line.new.engine before after was c.in-Ok.ensures.played c.in-Err-push_outcome.ensures.err
+    (subst (λ (t : List ℕ). 0 < length t) c.in-Ok.ensures.text c.in-Err-push_outcome.ensures.some)
 
 pub returns-in-Err-push_outcome-clause-owed : goal.returns-in-Err-push_outcome-clause-owed
 returns-in-Err-push_outcome-clause-owed g c done was =

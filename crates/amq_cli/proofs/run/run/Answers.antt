@@ -3,13 +3,14 @@ use Rattle.std.proofs.lemmas.List.{take_all}
 use Rattle.amq_model.specs.declared.history.Step.{Step}
 use Rattle.amq_model.specs.Answers.{history_of}
 use Rattle.amq_model.specs.declared.config.Config.{Config}
-use Rattle.amq_cli.specs.Offline.{lists_of, HasRunOn, HasText, IsLoadedState, IsEnding, HasRunCause, is_of_refused}
+use Rattle.amq_cli.specs.Offline.{lists_of, HasRunOn, HasText, IsLoadedState, IsEnding, HasRunCause, is_of_refused, IsShortRun}
 use Rattle.amq_cli.specs.declared.status.Status.{Status}
 use Rattle.amq_cli.proofs.Beginning.{begins_run}
 use Rattle.amq_cli.proofs.Recovering.{synced_nothing_new, begins_bare}
 use Rattle.amq_cli.proofs.Running.{begun_played, earlier_text, unopened_text, opening_ends, opening_cause, opening_refused, opens_partly, unopened_owed}
 use Rattle.amq_engine.specs.Owed.{AreOwedAtOpening}
 use Rattle.amq_cli.specs.Owed.{HasOwed}
+use Rattle.amq_cli.proofs.Short.{short_earlier, short_opening}
 use Rattle.amq_model.specs.Legal.{rolled_back}
 use Rattle.amq_engine.specs.Opening.{StandBehind, StandsFrom}
 use Rattle.amq_engine.proofs.Places.{told_on, told_front}
@@ -95,3 +96,17 @@ returns-in-Ok-clause-stands g c =
 pub returns-in-Err-clause-stands : goal.returns-in-Err-clause-stands
 returns-in-Err-clause-stands g c =
     ⊎_elim (λ blank. inl blank.2) (λ first. inr (told_front c.args.config (lists_of c.in-Err.field-0.chronicle) (g.D.Disk.past c.args.disk) first)) c.in-Err.ensures.failed_rollbacks
+
+pub returns-in-Ok-clause-short : goal.returns-in-Ok-clause-short
+returns-in-Ok-clause-short g c = λ is.
+    let kept = c.run_on.result.2 in
+    let faults = g.D.Disk.faults in
+    subst (λ (k : Config). IsShortRun k.buffer_timeout c.args.lines.items (faults c.args.disk) (faults c.run_on.result.1) kept.steps.items kept.receipts.items c.run_on.new.text.items) c.in-Ok.ensures.opened.0
+    (short_earlier c.in-Ok.engine.config.buffer_timeout c.args.lines.items (faults c.args.disk) (faults c.in-Ok.engine.disk) (faults c.run_on.result.1) kept.steps.items kept.receipts.items c.run_on.new.text.items c.in-Ok.ensures.faults (c.run_on.ensures.short is))
+
+pub returns-in-Err-clause-short : goal.returns-in-Err-clause-short
+returns-in-Err-clause-short g c = λ is.
+    let disk = c.in-Err.field-0.disk in
+    let kept = c.in-Err.field-0.chronicle in
+    let none = (opens_partly 1 (rolled_back kept.base) kept.steps.items c.in-Err.ensures.failed_legal.opening).0 in
+    short_opening c.args.config.buffer_timeout c.args.config _ c.in-Err.field-0.fault (g.D.Disk.past c.args.disk) (g.D.Disk.past disk) c.args.lines.items (g.D.Disk.faults c.args.disk) (g.D.Disk.faults disk) kept.steps.items kept.receipts.items c.args.text.now.items none c.requires.empty c.in-Err.ensures.cause (sym c.status_of_opening.ensures ∙ is)

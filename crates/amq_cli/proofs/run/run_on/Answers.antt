@@ -7,7 +7,7 @@ use Rattle.amq_engine.specs.Directory.{IsJournal}
 use Rattle.amq_engine.specs.Receipts.{IsCrashSafe, GoesOn}
 use Rattle.amq_engine.specs.Engine.{HasCause}
 use Rattle.amq_cli.specs.Statuses.{status_of}
-use Rattle.amq_cli.specs.Offline.{IsReported, HasRunOn, HasText, HasDiskCause, IsLoadedState, lists_of}
+use Rattle.amq_cli.specs.Offline.{IsReported, HasRunOn, HasText, HasDiskCause, IsLoadedState, IsShortRun, lists_of}
 use Rattle.amq_cli.specs.declared.status.Status.TheVariants.{Ok}
 use Rattle.amq_engine.proofs.GoingOn.{goes_by, goes_through}
 use Rattle.amq_engine.proofs.Noting.{both_true}
@@ -17,6 +17,7 @@ use Rattle.amq_cli.proofs.Causes.{cause_of_call, count_behind, count_refused}
 use Rattle.amq_cli.specs.Counts.{HasDiskCount}
 use Rattle.amq_cli.proofs.Beginning.{first_through, first_receipted}
 use Rattle.amq_cli.proofs.Recovering.{safe_still, last_of_all}
+use Rattle.amq_cli.proofs.Short.{short_loaded, short_closed, short_refused}
 use Rattle.amq_cli.proofs.Loading.{has_run_on, never_done, closed_so}
 use Rattle.amq_cli.proofs.Running.{replayed_closed, ended_closed, reported_text, unreported_text, refused_text, refusal_status, named_refusal, between_cause, refusal_cause}
 use Rattle.amq_model.specs.declared.history.Step.{Step}
@@ -169,3 +170,32 @@ returns-clause-stands g c first stands =
     let same : (let o : Option (List Step) = Some kept.steps.items in o) ≡ Some played.chronicle.steps.items = same_steps _ played.appended _ (Some (lists_of played.chronicle)) (Some (lists_of kept)) c.close-disk.ensures.receipt in
     let steps : kept.steps.items ≡ played.chronicle.steps.items = cc in
     subst (λ (ss : List Step). StandBehind config first 16 (history_of ss)) (sym steps) (subst (λ (k : Config). StandBehind k first 16 (history_of played.chronicle.steps.items)) c.replay-played.ensures.same.0 on.0)
+
+pub returns-clause-short : goal.returns-clause-short
+returns-clause-short g c =
+    let timeout = c.args.engine.config.buffer_timeout in
+    let lines = c.args.lines.items in
+    let kept = c.close-disk.result.1 in
+    let steps = kept.steps.items in
+    let receipts = kept.receipts.items in
+    let faults = g.D.Disk.faults in
+    let first = c.replay-played.new.engine in
+    let before = c.replay-played.new.text.items in
+    let was = faults c.args.engine.disk in
+    let played = faults first.disk in
+    let closed = faults c.close-disk.result.0 in
+    let now = faults c.match-played.disk in
+    elim c.match-played.branch [
+      | in-Ok+in-Ok-closed w ↦ (λ is.
+          let replayed = replayed_closed timeout lines (lists_of first.chronicle) (lists_of kept) _ first.durable _ _ (λ both. c.close-disk.ensures.waits (both_true (is_ok c.close-disk.result.2) (is_some first.since) both).1) c.close-disk.ensures.receipt before w.in-Ok.ensures.replayed in
+          subst (λ d. IsShortRun timeout lines was (faults d) steps receipts c.match-played.text.items) (sym w.disk-is) (subst (λ t. IsShortRun timeout lines was (faults w.add_report.new.disk) steps receipts t.items) (sym w.text-is)
+          (short_loaded timeout lines w.add_report.result was played closed (faults w.add_report.new.disk) steps receipts before w.add_report.new.text.items (sym w.status-is ∙ is) w.in-Ok.ensures.cause (subst (λ r. HasCause r played closed) w.in-Ok-closed.is c.close-disk.ensures.cause) w.add_report.ensures.count replayed w.add_report.ensures.unreported)))
+      | in-Ok+in-Err-closed w ↦ (λ is.
+          let replayed = replayed_closed timeout lines (lists_of first.chronicle) (lists_of kept) _ first.durable _ _ (λ both. c.close-disk.ensures.waits (both_true (is_ok c.close-disk.result.2) (is_some first.since) both).1) c.close-disk.ensures.receipt before w.in-Ok.ensures.replayed in
+          subst (λ d. IsShortRun timeout lines was (faults d) steps receipts c.match-played.text.items) (sym w.disk-is)
+          (short_closed timeout lines was played closed steps receipts before c.match-played.text.items ℕ w.in-Err-closed.refusal (sym w.status_of_refusal.ensures ∙ sym w.status-is ∙ is) w.in-Ok.ensures.cause (subst (λ r. HasCause r played closed) w.in-Err-closed.is c.close-disk.ensures.cause) replayed (ap (λ t. t.items) w.text-is)))
+      | in-Err w ↦ (λ is.
+          let ended = ended_closed timeout lines (lists_of first.chronicle) (lists_of kept) _ first.durable _ _ (λ both. c.close-disk.ensures.waits (both_true (is_ok c.close-disk.result.2) (is_some first.since) both).1) c.close-disk.ensures.receipt before _ _ w.in-Err.ensures.ended in
+          subst (λ d. IsShortRun timeout lines was (faults d) steps receipts c.match-played.text.items) (sym w.disk-is) (subst (λ t. IsShortRun timeout lines was closed steps receipts t.items) (sym w.text-is)
+          (short_refused timeout lines was played closed steps receipts before w.in-Err.refusal (Unit {0}) c.close-disk.result.2 w.in-Err.ensures.last (sym w.status_of_refusal-status.ensures ∙ sym w.status-is ∙ is) w.in-Err.ensures.cause c.close-disk.ensures.cause ended)))
+    ]
