@@ -36,3 +36,4 @@ pub mod OwedExamples
 pub mod EngineExamples
 pub mod DirectoryExamples
 pub mod OpeningExamples
+pub mod DataFilesExamples
