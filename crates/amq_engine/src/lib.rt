@@ -1,11 +1,15 @@
 //! The journal: one engine over one disk, owned by one thread.
 //!
 //! `chronicle` has the trait through which an engine tells what it did, and the chronicles `Kept` and
-//! `Unkept`. `engine` has the engine itself: opening, commands, flushing, ticking, closing. Below it
-//! stand `commands`, the records of commands and what refuses them; `moving`, which goes on to further
-//! files; `tail`, the end of the file in use with the buffer behind it; `opening`, which begins the
-//! first file; `put`, which puts bytes behind the last and syncs them; and `log`, a list with room made
-//! ahead.
+//! `Unkept`. `engine` has the engine itself: opening, commands, flushing, ticking, closing.
+//!
+//! An opening is `starting`, from the directory to the parts of an engine. It stands on `opening`, which
+//! loads the directory, syncs and settles it and begins a new file, and on `rolling`, which appends the
+//! rollbacks of transactions that were left open.
+//!
+//! Commands stand on `commands`, the records of commands and what refuses them; `moving`, which goes on
+//! to further files; `tail`, the end of the file in use with the buffer behind it; `put`, which puts
+//! bytes behind the last and syncs them; and `log`, a list with room made ahead.
 #![tactic(auto)]
 
 mod chronicle;

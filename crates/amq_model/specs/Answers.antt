@@ -142,29 +142,29 @@ highest base steps = fold max 0 (filter_map (λ p. number_of p.rec) base ++ filt
 abbrev pub limit : Config → ℕ
 limit config = min config.buffer_size (config.file_size - 16)
 
--- refusal 2
+-- `TooLarge`: its record is longer than the longest
 abbrev pub too_large : Config → Command → Option Refusal
 too_large config command = elim (record_of command 0) [ None ↦ None | Some rec ↦ (if nat_lt (limit config) (len_of rec) then Some (TooLarge (len_of rec) (limit config)) else None) ]
 
--- refusals 3 and 4
+-- `NoTx` and `TxPrepared`: the transaction that it names isn't open, or is prepared and the command works in it
 abbrev pub tx_refusal : List Placed → List Step → Command → Option Refusal
 tx_refusal base steps command = elim (tx_of command) [
   | None ↦ None
   | Some tx ↦ (if is_open base steps tx then (if works_in_tx command && is_prepared base steps tx then Some (TxPrepared tx) else None) else Some (NoTx tx))
 ]
 
--- refusal 5
+-- `Held`: another open transaction has a record of the id
 abbrev pub held : List Placed → List Step → Command → Option Refusal
 held base steps command = elim (id_of command) [ None ↦ None | Some id ↦ elim (holders base steps (tx_of command) id) [ [] ↦ None | tx ∷ others ↦ Some (Held id tx) ] ]
 
--- refusals 6 and 7
+-- `AlreadyLive` and `NoRecord`: it adds an id that is live in its view, or updates or deletes one that isn't
 abbrev pub id_refusal : List Placed → List Step → Command → Option Refusal
 id_refusal base steps command = elim (id_of command) [
   | None ↦ None
   | Some id ↦ (if in_view (base ++ history_of steps) (tx_of command) id then (if is_add command then Some (AlreadyLive id) else None) else (if is_add command then None else Some (NoRecord id)))
 ]
 
--- refusal 8
+-- `TxNumbersSpent`: a begin, and no number is left
 abbrev pub spent : List Placed → List Step → Command → Option Refusal
 spent base steps command = elim command [ c.Begin ↦ (if nat_le (2 ^ 63 - 1) (highest base steps) then Some (TxNumbersSpent (highest base steps)) else None) | _ ↦ None ]
 
@@ -181,7 +181,7 @@ accepted base steps command = elim command [
   | _ ↦ Done (Appended (length (history_of steps)))
 ]
 
--- refusals 2 to 8 of the journal of one thread, the first of them in their order
+-- the refusal of the journal of one thread: the first of `TooLarge`, `NoTx`, `TxPrepared`, `Held`, `AlreadyLive`, `NoRecord` and `TxNumbersSpent` that holds
 abbrev pub refusal : List Placed → List Step → Config → Command → Option Refusal
 refusal base steps config command = first_some (too_large config command ∷ tx_refusal base steps command ∷ held base steps command ∷ id_refusal base steps command ∷ spent base steps command ∷ [])
 

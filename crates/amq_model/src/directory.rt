@@ -48,7 +48,8 @@ pub enum OpenFault {
     /// There was no memory.
     #[error("no memory")]
     NoMemory,
-    /// The directory has a file. Opening such a directory isn't built yet.
+    /// A file has the control file's name. Opening such a directory isn't built yet; it is
+    /// unchanged.
     #[error("not built")]
     NotBuilt,
 }

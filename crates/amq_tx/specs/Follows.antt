@@ -41,7 +41,7 @@ pub record Knows (s : TxState) (base records : List Placed) (opens : ℕ → Boo
 abbrev pub Follows : TxState → List Placed → List Step → Type 0
 Follows s base steps = Knows s base (base ++ history_of steps) (is_open base steps) (highest base steps)
 
--- refusals 3 to 8 of the journal of one thread, the first of them in their order
+-- the refusal of the journal of one thread, but for a record's length: the first of `NoTx`, `TxPrepared`, `Held`, `AlreadyLive`, `NoRecord` and `TxNumbersSpent` that holds
 abbrev pub refusal_of : List Placed → List Step → Command → Option Refusal
 refusal_of base steps command = first_some (tx_refusal base steps command ∷ held base steps command ∷ id_refusal base steps command ∷ spent base steps command ∷ [])
 

@@ -1,4 +1,4 @@
--- Refusals 3 to 8 of a command, by what a table knows.
+-- What refuses a command, by what a table knows.
 use Rattle.std.specs.Prelude.{ℕ, ◌-◌, ◌^◌, Bool, true, false, ◌&&◌, nat_le, nat_eq, if◌then◌else◌, [], ◌∷◌, Option, Some, None, Result, Ok, Err}
 use Rattle.std.specs.Map.{lookup}
 use Rattle.amq_model.specs.declared.state.EntryEnd.{EntryEnd}
@@ -15,12 +15,12 @@ abbrev pub refused : {X : Type 0} → Result X Refusal → Option Refusal
 refused (Ok x) = None
 refused (Err refusal) = Some refusal
 
--- refusals 3 and 4 of a command of this transaction, by whether it works in it
+-- `NoTx` and `TxPrepared` of a command of this transaction, by whether it works in it
 abbrev pub turn_refusal : Option TurnState → ℕ → Bool → Option Refusal
 turn_refusal None tx works = Some (NoTx tx)
 turn_refusal (Some t) tx works = if works && t.is_prepared then Some (TxPrepared tx) else None
 
--- refusals 3 and 4
+-- `NoTx` and `TxPrepared`
 abbrev pub tx_refusal_in : TxState → Command → Option Refusal
 tx_refusal_in s command = elim (tx_of command) [ None ↦ None | Some tx ↦ turn_refusal (s.turns tx) tx (works_in_tx command) ]
 
@@ -33,7 +33,7 @@ abbrev pub held_by : ℕ → Option ℕ → Option Refusal
 held_by id None = None
 held_by id (Some tx) = Some (Held id tx)
 
--- refusal 5
+-- `Held`
 abbrev pub held_in : TxState → Command → Option Refusal
 held_in s command = elim (id_of command) [ None ↦ None | Some id ↦ held_by id (holder_in s id (tx_of command)) ]
 
@@ -48,18 +48,18 @@ abbrev pub view_in : TxState → Option ℕ → ℕ → Bool
 view_in s None id = s.live id
 view_in s (Some tx) id = live_after (lookup (nat_eq tx) (s.touched id)) (s.live id)
 
--- refusals 6 and 7 of an id, by whether it is live and whether the command adds it
+-- `AlreadyLive` and `NoRecord` of an id, by whether it is live and whether the command adds it
 abbrev pub live_refusal : ℕ → Bool → Bool → Option Refusal
 live_refusal id is_live adds = if is_live then (if adds then Some (AlreadyLive id) else None) else (if adds then None else Some (NoRecord id))
 
--- refusals 6 and 7
+-- `AlreadyLive` and `NoRecord`
 abbrev pub id_refusal_in : TxState → Command → Option Refusal
 id_refusal_in s command = elim (id_of command) [ None ↦ None | Some id ↦ live_refusal id (view_in s (tx_of command) id) (is_add command) ]
 
--- refusal 8
+-- `TxNumbersSpent`
 abbrev pub spent_in : TxState → Command → Option Refusal
 spent_in s command = elim command [ c.Begin ↦ (if nat_le (2 ^ 63 - 1) s.highest then Some (TxNumbersSpent s.highest) else None) | _ ↦ None ]
 
--- refusals 3 to 8, the first of them in their order
+-- the first of `NoTx`, `TxPrepared`, `Held`, `AlreadyLive`, `NoRecord` and `TxNumbersSpent` that holds
 abbrev pub refusal_in : TxState → Command → Option Refusal
 refusal_in s command = first_some (tx_refusal_in s command ∷ held_in s command ∷ id_refusal_in s command ∷ spent_in s command ∷ [])
