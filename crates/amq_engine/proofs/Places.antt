@@ -99,19 +99,20 @@ module _ (config : Config) (first : ℕ) where
 
 -- ---- the record of a command
 
+-- the file that a journal goes on to, by the files that are prepared
+abbrev first_of : PoolOf → List PoolFile → PoolFile
+first_of pool l = elim l [ [] ↦ numbered_file (pool.highest + 1) | f ∷ fs ↦ f ]
+
 -- the next file has the next number
 next_number : (config : Config) (table : TxState) (pool : PoolOf) (t : Tail) (p : Parts config table pool t) → (next_file pool).id ≡ t.file.id + 1
 next_number config table pool t p = by pool.prepared refl where
-  abbrev first_of : List PoolFile → PoolFile
-  first_of l = elim l [ [] ↦ numbered_file (pool.highest + 1) | f ∷ fs ↦ f ]
-
   low : t.file.id ≤ pool.highest
   low = used_id pool.highest (p.old ++ p.closed) t.file pool.prepared p.listed
 
   by : (files : List PoolFile) → pool.prepared ≡ files → (next_file pool).id ≡ t.file.id + 1
   by [] none = first (pool.highest - t.file.id) refl (sym p.behind ∙ ap ids_of none) where
     first : (n : ℕ) → pool.highest - t.file.id ≡ n → ids_of (files_from (t.file.id + 1) n) ≡ [] → (next_file pool).id ≡ t.file.id + 1
-    first zero left is = ap (λ (l : List PoolFile). (first_of l).id) none ∙ omega (arith, left, low)
+    first zero left is = ap (λ (l : List PoolFile). (first_of pool l).id) none ∙ omega (arith, left, low)
     first (suc n) left is = absurd (let e : (t.file.id + 1) ∷ ids_of (files_from (t.file.id + 1 + 1) n) ≡ [] = is in cc)
   by (f ∷ fs) some = first (pool.highest - t.file.id) refl (sym p.behind ∙ ap ids_of some) where
     first : (n : ℕ) → pool.highest - t.file.id ≡ n → ids_of (files_from (t.file.id + 1) n) ≡ f.id ∷ ids_of fs → (next_file pool).id ≡ t.file.id + 1
@@ -119,7 +120,7 @@ next_number config table pool t p = by pool.prepared refl where
     first (suc n) left is =
         let e : (t.file.id + 1) ∷ ids_of (files_from (t.file.id + 1 + 1) n) ≡ f.id ∷ ids_of fs = is in
         let same : t.file.id + 1 ≡ f.id = cc in
-        ap (λ (l : List PoolFile). (first_of l).id) some ∙ sym same
+        ap (λ (l : List PoolFile). (first_of pool l).id) some ∙ sym same
 
 -- once the journal is ready for it, it stands where it must
 pub placed_at : (config : Config) (table : TxState) (pool : PoolOf) (t : Tail) (p : Parts config table pool t) (m b : Bool) (rec : Record) → m ≡ passes config.file_size (end_of_tail t) (Some (len_of rec)) → spot (placed_behind (readied m b pool t) rec) ≡ place_behind config t.file.id (end_of_tail t) (len_of rec)

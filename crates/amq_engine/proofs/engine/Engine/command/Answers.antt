@@ -523,7 +523,7 @@ returns-clause-stands g c =
     let long : record_len c.args.command ≡ option_map len_of c.numbered-rec.result = sym (c.numbered-rec.ensures.length ∙ c.in-Ok.ensures.length) in
     let same : steps_in (lists c.ready.new.chronicle) ≡ steps_in (lists e.chronicle) = same_steps _ e.tail.appended _ (lists c.room_for.new.chronicle) (lists c.ready.new.chronicle) c.in_default-ready.ensures.receipt ∙ ap steps_in c.room_for.ensures.lists in
     subst (λ v. (first : ℕ) → IfSome (lists v.chronicle) (StandsFrom v.config first v.file v.end) → IfSome (lists c.step-2.new.self) (StandsFrom e.config first t.file.id (end_of_tail t))) c.self.view_is
-    (λ first stands. stands_put e.config first (state_of e.table) e.pool e.tail c.ready.new.tail t c.self.invariant.sound.parts c.passes-moves.result _ 0 c.numbered-rec.result _ (lists c.ready.new.chronicle) (lists c.step-2.new.self) (moves ∙ ap (passes e.config.file_size (end_of_tail e.tail)) long)
+    (λ first stands. stands_put e.config first (state_of e.table) e.pool e.tail c.ready.new.tail t c.self.invariant.sound.parts c.passes-moves.result _ e.clock c.numbered-rec.result _ (lists c.ready.new.chronicle) (lists c.step-2.new.self) (moves ∙ ap (passes e.config.file_size (end_of_tail e.tail)) long)
         c.in_default-ready.ensures.ok c.put_record-reply.ensures.tail c.put_record-reply.ensures.placed c.step-2.ensures.noted
         (stands_same e.config first e.tail.file.id (end_of_tail e.tail) e.tail.file.id (end_of_tail e.tail) (lists e.chronicle) (lists c.ready.new.chronicle) same refl refl stands))
 
