@@ -103,5 +103,6 @@ pub record HasOpenedFiles (config : Config) (highest : ℕ) (old new : Option Pa
   pub before : ℕ
   pub had : Told old (HasNumbers files before)
   pub works : Works (SyncsAllBut (IsRenewed before highest)) config.file_size before highest old new
+  pub count : Told new (HasCount (files + (highest - before)))
   pub enough : (config.min_files ≤ files + (highest - before)) ⊎ (highest ≡ 2 ^ 31 - 1)
   pub most : highest ≤ 2 ^ 31 - 1

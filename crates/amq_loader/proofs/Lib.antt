@@ -5,7 +5,7 @@ pub mod FromLoads
 mod Classes
 mod Sorting
 mod Chain
-mod Readings
+pub mod Readings
 mod Found
 mod Tallies
 mod OneFile

@@ -1,4 +1,4 @@
-use Rattle.std.proofs.Common.{◌≡◌, ◌⊎◌, inl, ℕ, ◌+◌, ◌-◌, ◌^◌, List, [], length, refl, sym, ap, subst, ◌∙◌, rules, true}
+use Rattle.std.proofs.Common.{◌≡◌, ◌⊎◌, inl, ℕ, ◌+◌, ◌-◌, ◌^◌, List, [], length, refl, sym, ap, subst, ◌∙◌, rules, true, ◌≤◌, ◌<◌, arith}
 use Rattle.std.specs.Prelude.{Err, IfErr, IfSome, min, take}
 use Rattle.amq_model.specs.declared.history.Step.{Step}
 use Rattle.amq_model.specs.Answers.{history_of}
@@ -21,8 +21,9 @@ use Rattle.amq_engine.proofs.Rollbacks.{both_so, placed_all, told_rollbacks}
 use Rattle.amq_engine.proofs.Started.{told_filled, valid_base, valid_rolled_back, valid_appended, valid_noted, valid_spent, on_err, same_base, roll_cause, unblank}
 use Rattle.amq_pool.specs.declared.pool.PoolFile.{PoolFile}
 use Rattle.amq_pool.specs.Pools.{numbered_file}
-use Rattle.amq_engine.specs.DataFiles.{WorkedTo}
+use Rattle.amq_engine.specs.DataFiles.{WorkedTo, SyncsAllBut, IsRenewed}
 use Rattle.amq_engine.proofs.OpenedFiles.{opened_works, enough_by}
+use Rattle.amq_engine.proofs.Counting.{count_told}
 use Rattle.amq_engine.proofs.starting.start.Goals as goal
 
 -- nothing was asked
@@ -225,11 +226,13 @@ returns-clause-opened_files g c =
     let tail = c.complete.new.tail in
     let highest = c.complete.new.pool.highest in
     let to = subst (λ (n : ℕ). WorkedTo true config.file_size n n highest (past c.begin.new.disk) (past c.complete.new.disk)) begun.2 c.in_ok-complete.ensures.works in
+    let done = opened_works config.file_size begun.0 highest (past c.args.disk.now) (past c.begin.new.disk) (past c.complete.new.disk) begun.5 to in
     record {
       files = files;
       before = begun.0;
       had = begun.4;
-      works = opened_works config.file_size begun.0 highest (past c.args.disk.now) (past c.begin.new.disk) (past c.complete.new.disk) begun.5 to;
+      works = done;
+      count = count_told (SyncsAllBut (IsRenewed begun.0 highest)) config.file_size files begun.0 highest (past c.args.disk.now) (past c.complete.new.disk) (omega (arith, to.3.least, to.3.within, to.2 refl)) (omega (arith, valid.sound.parts.numbers)) begun.4 done;
       enough = enough_by config files begun.0 first tail.file.id highest (min (config.min_files - (files + (tail.file.id + 1 - first))) (2 ^ 31 - 1 - tail.file.id)) (ap (λ (f : PoolFile). f.id) begun.1) c.in_ok-complete.ensures.later_file valid.sound.parts.numbers refl c.in_ok-complete.ensures.filled.0;
       most = valid.sound.parts.numbers;
     }
