@@ -210,8 +210,13 @@ module _ (size files before last : ℕ) (o s : Files) (on : before ≤ last) (lo
       let r = numbered q k in
       let e = name_has (finite.entries had.image) q h in
       let read : number_of e.0.0 ≡ Some r.0 = number_is e.0.0 r.0 (ap data_number (e.3 ∙ r.3) ∙ data_is_read r.0 (omega (arith, low, r.2))) in
-      omega (arith, r.1, had.is, has_le 0 (map (λ (f : FileOf). f.id) (data_files (finite.entries had.image) None) ++ filter_map (λ (f : Entry). number_of f.0) (finite.entries had.image)) r.0
-      (has_right (map (λ (f : FileOf). f.id) (data_files (finite.entries had.image) None)) (filter_map (λ (f : Entry). number_of f.0) (finite.entries had.image)) r.0 (numbers_have (finite.entries had.image) e.0 r.0 e.1 read)))
+      omega (
+        arith,
+        r.1,
+        had.is,
+        has_le 0 (map (λ (f : FileOf). f.id) (data_files (finite.entries had.image) None) ++ filter_map (λ (f : Entry). number_of f.0) (finite.entries had.image)) r.0
+            (has_right (map (λ (f : FileOf). f.id) (data_files (finite.entries had.image) None)) (filter_map (λ (f : Entry). number_of f.0) (finite.entries had.image)) r.0 (numbers_have (finite.entries had.image) e.0 r.0 e.1 read)),
+      )
 
   to : (q : FileName) → Has (old ++ new) q → Has now q
   to q h = there_named s (reading_of s) (is_reading s) q (λ none. ⊎_elim

@@ -246,10 +246,22 @@ module _ (config : Config) (highest : ℕ) (is : IsConfig config) (low : highest
     by : (h : Option Past) → Leaves I I h b → Worked false Keeps config.file_size highest (highest + 1) h b
     by None went = record { last = highest; least = omega arith; within = omega arith; near = omega arith; all = λ is. absurd cc; works = record { keeps = kept None went; files = tt } }
     by (Some p) went = ⊎_elim
-        (λ same. record { last = highest; least = omega arith; within = omega arith; near = omega arith; all = λ is. absurd cc;
-          works = record { keeps = kept (Some p) went; files = at (HasMade config.file_size highest highest (content p.start p.calls)) (same_made config.file_size highest _ _ same) } })
-        (λ made. record { last = highest + 1; least = omega arith; within = omega arith; near = omega arith; all = λ is. absurd cc;
-          works = record { keeps = kept (Some p) went; files = at (HasMade config.file_size highest (highest + 1) (content p.start p.calls)) made } })
+        (λ same. record {
+          last = highest;
+          least = omega arith;
+          within = omega arith;
+          near = omega arith;
+          all = λ is. absurd cc;
+          works = record { keeps = kept (Some p) went; files = at (HasMade config.file_size highest highest (content p.start p.calls)) (same_made config.file_size highest _ _ same) };
+        })
+        (λ made. record {
+          last = highest + 1;
+          least = omega arith;
+          within = omega arith;
+          near = omega arith;
+          all = λ is. absurd cc;
+          works = record { keeps = kept (Some p) went; files = at (HasMade config.file_size highest (highest + 1) (content p.start p.calls)) made };
+        })
         (making_made config highest is low (content p.start p.calls) (content went.0.start went.0.calls) went.2.told)
       where
         at : (Q : Files → Type 0) → Q (content went.0.start went.0.calls) → Told b Q
@@ -329,10 +341,14 @@ pub to_then : (done : Bool) (size from first mid further most reached : ℕ) (x 
 to_then done size from first mid further most reached x y z low on high to one two =
     let J : Files → Files → Type 0 = SparesAllBut (IsPreparing from mid) in
     let one_is : Works J size first mid x y = subst (λ (n : ℕ). Works (SparesAllBut (IsPreparing from n)) size first n x y) (one.2 refl) (worked_works (SparesAllBut (IsPreparing from one.0)) size first one.0 x y one.3) in
-    let least : first ≤ mid = omega (arith, one.3.least, one.3.within, one.2 refl) in
-    (most, high, to, worked_then done J (SparesAllBut (IsPreparing further most)) (SparesAllBut (IsPreparing from most)) size first mid most x y z
-    (spares_wider (IsPreparing from mid) (IsPreparing from most) (preparing_from from from mid most (omega arith) on))
-    (spares_then (IsPreparing from mid) (IsPreparing further most) (IsPreparing from most) (preparing_from from from mid most (omega arith) on) (preparing_from from further most most low (omega arith))) (omega (arith, high)) least one_is two)
+    let least : first ≤ mid = omega (arith, one.3.least, one.3.within, one.2 refl) in (
+      most,
+      high,
+      to,
+      worked_then done J (SparesAllBut (IsPreparing further most)) (SparesAllBut (IsPreparing from most)) size first mid most x y z
+          (spares_wider (IsPreparing from mid) (IsPreparing from most) (preparing_from from from mid most (omega arith) on))
+          (spares_then (IsPreparing from mid) (IsPreparing further most) (IsPreparing from most) (preparing_from from from mid most (omega arith) on) (preparing_from from further most most low (omega arith))) (omega (arith, high)) least one_is two,
+    )
 
 -- behind it nothing else was done
 pub to_same : (done : Bool) (size from first reached other : ℕ) (x y : Option Past) → (done ≡ true → other ≡ reached) → WorkedTo done size from first reached x y → WorkedTo done size from first other x y

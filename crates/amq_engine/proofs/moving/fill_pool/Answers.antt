@@ -40,15 +40,15 @@ loop-preserved g c =
       tidy = λ tidy. c.in_ok-prepare.ensures.tidy (c.loop.invariant.tidy tidy);
       goes = goes_through (g.D.Disk.past c.args.disk.now) (g.D.Disk.past c.loop.disk) (g.D.Disk.past c.prepare.new.disk) c.loop.invariant.goes c.prepare.ensures.goes_on;
       works =
-      let p = c.args.pool.now in
-      let now = c.loop.pool in
-      let past = g.D.Disk.past in
-      let size : now.config.file_size ≡ p.config.file_size = ap (λ (q : PoolOf). q.config.file_size) c.loop.invariant.filled ∙ ap (λ (k : Config). k.file_size) (with_files_config c.loop.counter p) in
-      let made : Worked true (SparesAllBut (IsPreparing (now.highest + 1) (now.highest + 1))) p.config.file_size now.highest (now.highest + 1) (past c.loop.disk) (past c.prepare.new.disk) =
-      subst (λ (n : ℕ). Worked true (SparesAllBut (IsPreparing (now.highest + 1) (now.highest + 1))) n now.highest (now.highest + 1) (past c.loop.disk) (past c.prepare.new.disk)) size
-      c.in_ok-prepare.ensures.works in
-      to_then true p.config.file_size (p.highest + 1) p.highest now.highest (now.highest + 1) (now.highest + 1) c.prepare.new.pool.highest (past c.args.disk.now) (past c.loop.disk) (past c.prepare.new.disk)
-      (omega (arith, c.loop.invariant.highest)) (omega arith) (grind (arith, c.loop-test.true, c.loop.invariant.highest, c.min-end.ensures, c.saturating_sub-missing.ensures, c.saturating_sub-left.ensures, c.highest.ensures.value, c.from.ensures)) (λ d. sym (ap (λ (q : PoolOf). q.highest) c.in_ok-prepare.ensures.prepared)) c.loop.invariant.works made;
+          let p = c.args.pool.now in
+          let now = c.loop.pool in
+          let past = g.D.Disk.past in
+          let size : now.config.file_size ≡ p.config.file_size = ap (λ (q : PoolOf). q.config.file_size) c.loop.invariant.filled ∙ ap (λ (k : Config). k.file_size) (with_files_config c.loop.counter p) in
+          let made : Worked true (SparesAllBut (IsPreparing (now.highest + 1) (now.highest + 1))) p.config.file_size now.highest (now.highest + 1) (past c.loop.disk) (past c.prepare.new.disk) =
+          subst (λ (n : ℕ). Worked true (SparesAllBut (IsPreparing (now.highest + 1) (now.highest + 1))) n now.highest (now.highest + 1) (past c.loop.disk) (past c.prepare.new.disk)) size
+          c.in_ok-prepare.ensures.works in
+          to_then true p.config.file_size (p.highest + 1) p.highest now.highest (now.highest + 1) (now.highest + 1) c.prepare.new.pool.highest (past c.args.disk.now) (past c.loop.disk) (past c.prepare.new.disk)
+          (omega (arith, c.loop.invariant.highest)) (omega arith) (grind (arith, c.loop-test.true, c.loop.invariant.highest, c.min-end.ensures, c.saturating_sub-missing.ensures, c.saturating_sub-left.ensures, c.highest.ensures.value, c.from.ensures)) (λ d. sym (ap (λ (q : PoolOf). q.highest) c.in_ok-prepare.ensures.prepared)) c.loop.invariant.works made;
     }
 
 pub returns-in_err-prepare-clause-failed_works : goal.returns-in_err-prepare-clause-failed_works

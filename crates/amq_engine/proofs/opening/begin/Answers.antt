@@ -296,8 +296,7 @@ returns-then-is_err-clause-owed g c =
 pub returns-in-Ok-clause-begun : goal.returns-in-Ok-clause-begun
 returns-in-Ok-clause-begun g c =
     let past = g.D.Disk.past in
-    let loaded = c.in_ok-loaded.field-0.loaded in
-    (
+    let loaded = c.in_ok-loaded.field-0.loaded in (
       loaded.highest_file,
       c.in-Ok.ensures.file,
       ap (λ (p : PoolOf). p.highest) c.in-Ok.ensures.pool,
