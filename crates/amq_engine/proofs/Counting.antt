@@ -18,7 +18,7 @@ use Rattle.amq_engine.specs.Opening.{HasNumbers}
 use Rattle.amq_model.specs.Calls.{Past}
 use Rattle.amq_model.specs.Leaves.{Leaves, Told}
 use Rattle.amq_engine.proofs.FilesTold.{told_for}
-use Rattle.amq_engine.specs.DataFiles.{Works, id_and_length, data_file_at, HasCount, HasMade, IsNumbered}
+use Rattle.amq_engine.specs.DataFiles.{Works, id_and_length, data_file_at, HasCount, HasFilesMade, IsNumbered}
 
 -- ---- lists of names
 
@@ -192,7 +192,7 @@ number_is n k e = rw e refl
 
 -- ---- the count
 
-module _ (size files before last : ℕ) (o s : Files) (on : before ≤ last) (low : last < 2 ^ 63) (had : HasNumbers files before o) (made : HasMade size before last o s) where
+module _ (size files before last : ℕ) (o s : Files) (on : before ≤ last) (low : last < 2 ^ 63) (had : HasNumbers files before o) (made : HasFilesMade size before last o s) where
   abbrev old : List FileName
   old = map (λ (f : FileOf). f.name) (files_by_name (finite.entries had.image) None)
 
@@ -250,4 +250,4 @@ module _ (size files before last : ℕ) (o s : Files) (on : before ≤ last) (lo
 
 pub count_told : (Keeps : Files → Files → Type 0) (size files before last : ℕ) (a b : Option Past) → before ≤ last → last < 2 ^ 63 → Told a (HasNumbers files before) → Works Keeps size before last a b → Told b (HasCount (files + (last - before)))
 count_told Keeps size files before last None b on low had w = subst (λ (h : Option Past). Told h (HasCount (files + (last - before)))) (sym w.keeps) tt
-count_told Keeps size files before last (Some p) b on low had w = told_for (HasMade size before last _) (HasCount (files + (last - before))) b (λ s made. count_made size files before last _ s on low had made) w.files
+count_told Keeps size files before last (Some p) b on low had w = told_for (HasFilesMade size before last _) (HasCount (files + (last - before))) b (λ s made. count_made size files before last _ s on low had made) w.files

@@ -21,7 +21,7 @@ use Rattle.amq_header.proofs.Made.{data_is_read, data_differ}
 use Rattle.amq_pool.specs.Pools.{PoolOf, file_for, Making, Made}
 use Rattle.amq_pool.proofs.Contents.{file_long, has_header}
 use Rattle.amq_engine.specs.Puts.{Puts}
-use Rattle.amq_engine.specs.DataFiles.{id_and_length, data_file_at, HasSameFiles, IsNumbered, HasMade, IsPreparing, IsUsedOrNew, Works, Worked, WorkedTo}
+use Rattle.amq_engine.specs.DataFiles.{id_and_length, data_file_at, HasSameFiles, IsNumbered, HasFilesMade, IsPreparing, IsUsedOrNew, Works, Worked, WorkedTo}
 use Rattle.amq_engine.specs.Engine.{is_nil, with_files}
 use Rattle.amq_engine.proofs.Putting.{length-overlaid}
 use Rattle.amq_engine.proofs.Segments.{head_for}
@@ -44,13 +44,13 @@ files_by o s n same = by (is_data n) same where
   by true same = ap id_and_length (same refl)
   by false same = refl
 
-pub same_made : (size first : ℕ) (o s : Files) → HasSameFiles o s → HasMade size first first o s
+pub same_made : (size first : ℕ) (o s : Files) → HasSameFiles o s → HasFilesMade size first first o s
 same_made size first o s same = record {
   made = λ k above below. absurd (omega (arith, above, below));
   others = λ n out. same n;
 }
 
-made_then : (size a b c : ℕ) (o m s : Files) → a ≤ b → b ≤ c → c < 2 ^ 63 → HasMade size a b o m → HasMade size b c m s → HasMade size a c o s
+made_then : (size a b c : ℕ) (o m s : Files) → a ≤ b → b ≤ c → c < 2 ^ 63 → HasFilesMade size a b o m → HasFilesMade size b c m s → HasFilesMade size a c o s
 made_then size a b c o m s ab bc low one two = record {
   made = λ k above below. ⊎_elim
       (λ (late : b < k). two.made k late below)
@@ -122,7 +122,7 @@ module _ (config : Config) (highest : ℕ) (is : IsConfig config) (low : highest
   others_same : (o s : Files) → ((n : FileName) → (n ≡ temporary_name (highest + 1) → ⊥) → (n ≡ data_name (highest + 1) → ⊥) → finite.get s n ≡ finite.get o n) → (n : FileName) → (n ≡ data_name (highest + 1) → ⊥) → data_file_at n s ≡ data_file_at n o
   others_same o s others n ne = files_by o s n (λ plain. others n (temporary_apart (highest + 1) n (inl plain)) ne)
 
-  next_made : (o s : Files) → ((n : FileName) → (n ≡ temporary_name (highest + 1) → ⊥) → (n ≡ data_name (highest + 1) → ⊥) → finite.get s n ≡ finite.get o n) → finite.get s (data_name (highest + 1)) ≡ Some (file_for config (highest + 1)) → HasMade config.file_size highest (highest + 1) o s
+  next_made : (o s : Files) → ((n : FileName) → (n ≡ temporary_name (highest + 1) → ⊥) → (n ≡ data_name (highest + 1) → ⊥) → finite.get s n ≡ finite.get o n) → finite.get s (data_name (highest + 1)) ≡ Some (file_for config (highest + 1)) → HasFilesMade config.file_size highest (highest + 1) o s
   next_made o s others there = record {
     made = λ k above below.
         let same : k ≡ highest + 1 = omega (arith, above, below) in
@@ -130,10 +130,10 @@ module _ (config : Config) (highest : ℕ) (is : IsConfig config) (low : highest
     others = λ n out. others_same o s others n (λ e. out (highest + 1, omega arith, omega arith, e));
   }
 
-  pub made_made : (o s : Files) → Made config (highest + 1) o s → HasMade config.file_size highest (highest + 1) o s
+  pub made_made : (o s : Files) → Made config (highest + 1) o s → HasFilesMade config.file_size highest (highest + 1) o s
   made_made o s made = next_made o s made.others made.final
 
-  pub making_made : (o s : Files) → Making config (highest + 1) o s → HasSameFiles o s ⊎ HasMade config.file_size highest (highest + 1) o s
+  pub making_made : (o s : Files) → Making config (highest + 1) o s → HasSameFiles o s ⊎ HasFilesMade config.file_size highest (highest + 1) o s
   making_made o s making = ⊎_elim (λ same. inl (unchanged same)) (λ new. inr (next_made o s making.others new.0)) making.final where
     unchanged : finite.get s (data_name (highest + 1)) ≡ finite.get o (data_name (highest + 1)) → HasSameFiles o s
     unchanged same n = by (same_or_not n (data_name (highest + 1))) where
@@ -166,13 +166,13 @@ told_still R (Some p) same = same (content p.start p.calls)
 pub works_still : (Keeps : Files → Files → Type 0) (size first : ℕ) (a : Option Past) → ((s : Files) → Keeps s s) → Works Keeps size first first a a
 works_still Keeps size first a same = record {
   keeps = still Keeps Keeps a same;
-  files = told_still (HasMade size first first) a (λ s. same_made size first s s (λ n. refl));
+  files = told_still (HasFilesMade size first first) a (λ s. same_made size first s s (λ n. refl));
 }
 
 pub works_then : (J K L : Files → Files → Type 0) (size a b c : ℕ) (x y z : Option Past) → ((o s : Files) → J o s → L o s) → ((o m s : Files) → J o m → K m s → L o s) → a ≤ b → b ≤ c → c < 2 ^ 63 → Works J size a b x y → Works K size b c y z → Works L size a c x z
 works_then J K L size a b c x y z first both ab bc low one two = record {
   keeps = go_on {I = J} {J = K} {K = L} {E = J} {F = K} {G = L} x y z first both both one.keeps two.keeps;
-  files = told_chain J J K K (HasMade size a b) (HasMade size b c) (HasMade size a c) x y z (λ o m s r t. made_then size a b c o m s ab bc low r t) one.keeps two.keeps one.files two.files;
+  files = told_chain J J K K (HasFilesMade size a b) (HasFilesMade size b c) (HasFilesMade size a c) x y z (λ o m s r t. made_then size a b c o m s ab bc low r t) one.keeps two.keeps one.files two.files;
 }
 
 pub works_wider : (J K : Files → Files → Type 0) (size a b : ℕ) (x y : Option Past) → ((o s : Files) → J o s → K o s) → Works J size a b x y → Works K size a b x y
@@ -193,7 +193,7 @@ preparing_from a b c d low high n p = (p.0, omega (arith, low, p.1), omega (arit
 pub puts_works : (n : FileName) (place : ℕ) (bytes : List ℕ) (size first : ℕ) (a b : Option Past) → 16 ≤ place → Told a (IsThere n) → Told a (IsWithin n (place + length bytes)) → Leaves (Puts n place bytes) (Puts n place bytes) a b → Works (SparesAllBut (λ m. m ≡ n)) size first first a b
 puts_works n place bytes size first a b from there within went = record {
   keeps = loosely P K P K a b spared spared went;
-  files = told_two P P (HasMade size first first) (HasMade size first first) a b (λ s. IsThere n s × IsWithin n (place + length bytes) s) (both a there within)
+  files = told_two P P (HasFilesMade size first first) (HasFilesMade size first first) a b (λ s. IsThere n s × IsWithin n (place + length bytes) s) (both a there within)
       (λ o s was puts. same_made size first o s (put_same n place bytes o s from was.0 was.1 puts)) went;
 }
   where
@@ -227,7 +227,7 @@ module _ (config : Config) (highest : ℕ) (is : IsConfig config) (low : highest
   pub made_works : Leaves I (Made config (highest + 1)) a b → Works Keeps config.file_size highest (highest + 1) a b
   made_works went = record {
     keeps = loosely I Keeps (Made config (highest + 1)) Keeps a b spared spared_made went;
-    files = told_two I (Made config (highest + 1)) (HasMade config.file_size highest (highest + 1)) (HasMade config.file_size highest (highest + 1)) a b (λ s. Unit {0}) (trivial a) (λ o s was made. made_made config highest is low o s made) went;
+    files = told_two I (Made config (highest + 1)) (HasFilesMade config.file_size highest (highest + 1)) (HasFilesMade config.file_size highest (highest + 1)) a b (λ s. Unit {0}) (trivial a) (λ o s was made. made_made config highest is low o s made) went;
   }
     where
       trivial : (h : Option Past) → Told h (λ s. Unit {0})
@@ -252,7 +252,7 @@ module _ (config : Config) (highest : ℕ) (is : IsConfig config) (low : highest
           within = omega arith;
           near = omega arith;
           all = λ is. absurd cc;
-          works = record { keeps = kept (Some p) went; files = at (HasMade config.file_size highest highest (content p.start p.calls)) (same_made config.file_size highest _ _ same) };
+          works = record { keeps = kept (Some p) went; files = at (HasFilesMade config.file_size highest highest (content p.start p.calls)) (same_made config.file_size highest _ _ same) };
         })
         (λ made. record {
           last = highest + 1;
@@ -260,7 +260,7 @@ module _ (config : Config) (highest : ℕ) (is : IsConfig config) (low : highest
           within = omega arith;
           near = omega arith;
           all = λ is. absurd cc;
-          works = record { keeps = kept (Some p) went; files = at (HasMade config.file_size highest (highest + 1) (content p.start p.calls)) made };
+          works = record { keeps = kept (Some p) went; files = at (HasFilesMade config.file_size highest (highest + 1) (content p.start p.calls)) made };
         })
         (making_made config highest is low (content p.start p.calls) (content went.0.start went.0.calls) went.2.told)
       where

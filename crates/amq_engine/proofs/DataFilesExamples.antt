@@ -10,7 +10,7 @@ use Rattle.amq_model.specs.Leaves.{IsSyncedFile}
 use Rattle.amq_header.specs.Classes.{data_name, temporary_name}
 use Rattle.amq_header.proofs.Made.{data_is_read}
 use Rattle.amq_loader.specs.Loads.{is_leftover}
-use Rattle.amq_engine.specs.DataFiles.{id_and_length, data_file_at, HasSameFiles, HasMade, HasId, IsNumbered, IsPreparing, IsUsedOrNew, IsRenewed, LeavesAllBut, SyncsAllBut, WorkedTo}
+use Rattle.amq_engine.specs.DataFiles.{id_and_length, data_file_at, HasSameFiles, HasFilesMade, HasId, IsNumbered, IsPreparing, IsUsedOrNew, IsRenewed, LeavesAllBut, SyncsAllBut, WorkedTo}
 use Rattle.amq_engine.proofs.DataFiles.{same_made}
 
 -- a header of version 2 and id 3, and one byte
@@ -48,15 +48,15 @@ pub a_lost_file_is_missed : (n : FileName) (o s : Files) → HasId 3 o n → fin
 a_lost_file_is_missed n o s had none same = none-some (3, had.0) (sym (missing n s none) ∙ same n ∙ had.1)
 
 -- no number is new
-pub nothing_is_made : (s : Files) → HasMade 64 5 5 s s
+pub nothing_is_made : (s : Files) → HasFilesMade 64 5 5 s s
 nothing_is_made s = same_made 64 5 s s (λ n. refl)
 
 -- a number that is told has a file
-pub a_file_left_out : (o s : Files) → finite.get s (data_name 6) ≡ None → HasMade 64 5 6 o s → ⊥
+pub a_file_left_out : (o s : Files) → finite.get s (data_name 6) ≡ None → HasFilesMade 64 5 6 o s → ⊥
 a_file_left_out o s none made = none-some (6, 64) (sym (missing (data_name 6) s none) ∙ made.made 6 (omega arith) (omega arith))
 
 -- one of another length isn't it
-pub another_length : (o s : Files) → data_file_at (data_name 6) s ≡ Some (6, 32) → HasMade 64 5 6 o s → ⊥
+pub another_length : (o s : Files) → data_file_at (data_name 6) s ≡ Some (6, 32) → HasFilesMade 64 5 6 o s → ⊥
 another_length o s there made = omega (arith, ap (λ (x : ℕ × ℕ). x.1) (same_Some (6, 32) (6, 64) (sym there ∙ made.made 6 (omega arith) (omega arith))))
 
 -- names by their numbers

@@ -23,7 +23,7 @@ use Rattle.amq_engine.specs.declared.tail.Tail.{Tail}
 use Rattle.amq_engine.specs.Lists.{Lists}
 use Rattle.amq_engine.specs.Directory.{StandsNow, IsInUse}
 use Rattle.amq_engine.specs.Engine.{Parts, IsSound, IsNewItem, pool_readied, is_nil}
-use Rattle.amq_engine.specs.DataFiles.{data_file_at, id_and_length, HasSameFiles, HasMade, HasId, IsPreparing, IsUsedOrNew, LeavesAllBut, Works, Worked}
+use Rattle.amq_engine.specs.DataFiles.{data_file_at, id_and_length, HasSameFiles, HasFilesMade, HasId, IsPreparing, IsUsedOrNew, LeavesAllBut, Works, Worked}
 use Rattle.amq_engine.proofs.Segments.{in_use_segment}
 use Rattle.amq_engine.proofs.Listing.{listed_data, has_used, used_id}
 use Rattle.amq_engine.proofs.Standing.{now_used}
@@ -73,11 +73,11 @@ told_both_for : (P Q : Files → Files → Type 0) (a b : Option Past) → ((o s
 told_both_for P Q a b f told = told_for (λ o. Told b (P o)) (λ o. Told b (Q o)) a (λ o. told_for (P o) (Q o) b (f o)) told
 
 -- no number is new
-pub made_same : (size h : ℕ) (o s : Files) → HasMade size h h o s → HasSameFiles o s
+pub made_same : (size h : ℕ) (o s : Files) → HasFilesMade size h h o s → HasSameFiles o s
 made_same size h o s made n = made.others n (λ is. absurd (omega (arith, is.1, is.2)))
 
 pub works_same : (Keeps : Files → Files → Type 0) (size h : ℕ) (a b : Option Past) → Works Keeps size h h a b → Told a (λ o. Told b (HasSameFiles o))
-works_same Keeps size h a b w = told_both_for (HasMade size h h) HasSameFiles a b (λ o s made. made_same size h o s made) w.files
+works_same Keeps size h a b w = told_both_for (HasFilesMade size h h) HasSameFiles a b (λ o s made. made_same size h o s made) w.files
 
 -- the file in use, and where one is prepared the next
 pub touched_by : (used : FileName) (id h : ℕ) (b : Bool) (past : Option Past) → Told past (λ s. HasId id s used) → Told past (λ o. (n : FileName) → IsUsedOrNew used (h + 1) (cond b (h + 1) h) n → HasId id o n ⊎ (IsTrue b × IsPreparing (h + 1) (h + 1) n))
@@ -95,13 +95,13 @@ readied_most true p = by p.prepared refl where
   by (f ∷ fs) e = rw e refl
 
 -- a command that failed
-pub failed_told : (Keeps : Files → Files → Type 0) (size h : ℕ) (b : Bool) (x y : Option Past) → Worked false Keeps size h (cond b (h + 1) h) x y → Told x (λ o. Told y (λ s. HasSameFiles o s ⊎ (IsTrue b × HasMade size h (h + 1) o s)))
-failed_told Keeps size h b x y w = told_both_for (HasMade size h w.last) (λ o s. HasSameFiles o s ⊎ (IsTrue b × HasMade size h (h + 1) o s)) x y (λ o s made. by b w.within o s made) w.works.files where
-  by : (k : Bool) → w.last ≤ cond k (h + 1) h → (o s : Files) → HasMade size h w.last o s → HasSameFiles o s ⊎ (IsTrue k × HasMade size h (h + 1) o s)
-  by false le o s made = inl (made_same size h o s (subst (λ (n : ℕ). HasMade size h n o s) (omega (arith, le, w.least)) made))
+pub failed_told : (Keeps : Files → Files → Type 0) (size h : ℕ) (b : Bool) (x y : Option Past) → Worked false Keeps size h (cond b (h + 1) h) x y → Told x (λ o. Told y (λ s. HasSameFiles o s ⊎ (IsTrue b × HasFilesMade size h (h + 1) o s)))
+failed_told Keeps size h b x y w = told_both_for (HasFilesMade size h w.last) (λ o s. HasSameFiles o s ⊎ (IsTrue b × HasFilesMade size h (h + 1) o s)) x y (λ o s made. by b w.within o s made) w.works.files where
+  by : (k : Bool) → w.last ≤ cond k (h + 1) h → (o s : Files) → HasFilesMade size h w.last o s → HasSameFiles o s ⊎ (IsTrue k × HasFilesMade size h (h + 1) o s)
+  by false le o s made = inl (made_same size h o s (subst (λ (n : ℕ). HasFilesMade size h n o s) (omega (arith, le, w.least)) made))
   by true le o s made = ⊎_elim
-      (λ (lt : h < w.last). inr (refl, subst (λ (n : ℕ). HasMade size h n o s) (omega (arith, le, lt)) made))
-      (λ (ge : w.last ≤ h). inl (made_same size h o s (subst (λ (n : ℕ). HasMade size h n o s) (omega (arith, ge, w.least)) made))) (cases_lt h w.last)
+      (λ (lt : h < w.last). inr (refl, subst (λ (n : ℕ). HasFilesMade size h n o s) (omega (arith, le, lt)) made))
+      (λ (ge : w.last ≤ h). inl (made_same size h o s (subst (λ (n : ℕ). HasFilesMade size h n o s) (omega (arith, ge, w.least)) made))) (cases_lt h w.last)
 
 -- nothing was called
 pub same_told : (a : Option Past) → Told a (λ o. Told a (HasSameFiles o))

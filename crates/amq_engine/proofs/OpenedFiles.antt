@@ -20,7 +20,7 @@ use Rattle.amq_pool.specs.Pools.{PoolOf, numbered_file}
 use Rattle.amq_engine.specs.declared.tail.Tail.{Tail}
 use Rattle.amq_engine.specs.Engine.{readied, pool_readied}
 use Rattle.amq_engine.specs.Opening.{AreLeft}
-use Rattle.amq_engine.specs.DataFiles.{id_and_length, data_file_at, HasSameFiles, HasMade, IsNumbered, IsPreparing, IsUsedOrNew, IsRenewed, SyncsAllBut, Works, Worked, WorkedTo}
+use Rattle.amq_engine.specs.DataFiles.{id_and_length, data_file_at, HasSameFiles, HasFilesMade, IsNumbered, IsPreparing, IsUsedOrNew, IsRenewed, SyncsAllBut, Works, Worked, WorkedTo}
 use Rattle.amq_engine.proofs.DataFiles.{files_by, same_made, told_two, works_then, works_wider, worked_works, works_worked, worked_wider, spares_wider, spares_then, preparing_from, to_then, info_by}
 
 -- ---- the rollbacks
@@ -64,7 +64,7 @@ cleared_works : (size h : ℕ) (names : List FileName) (a b : Option Past) → T
 cleared_works size h names None b left went = record { keeps = went; files = tt }
 cleared_works size h names (Some p) b left went = record {
   keeps = loosely (Clears names) K (Clears names) K (Some p) b wider wider went;
-  files = told_two (Clears names) (Clears names) (HasMade size h h) (HasMade size h h) (Some p) b (AreLeft names) left
+  files = told_two (Clears names) (Clears names) (HasFilesMade size h h) (HasFilesMade size h h) (Some p) b (AreLeft names) left
       (λ o s l clears. same_made size h o s (λ n. files_by o s n (λ plain. clears n (λ among. plain_no (is_data n) plain (l.others n among).0)))) went;
 }
   where
@@ -99,7 +99,7 @@ synced_info (Some o) (Some s) same = info_by s.bytes o.bytes (ap length same.0) 
 syncs_works : (size h : ℕ) (a b : Option Past) → Leaves Syncs Syncs a b → Works Syncs size h h a b
 syncs_works size h a b went = record {
   keeps = went;
-  files = told_two Syncs Syncs (HasMade size h h) (HasMade size h h) a b (λ s. Unit {0}) (trivial a) (λ o s was syncs. same_made size h o s (λ n. ap (λ (x : Option (ℕ × ℕ)). cond (is_data n) x None) (synced_info (finite.get o n) (finite.get s n) (syncs n)))) went;
+  files = told_two Syncs Syncs (HasFilesMade size h h) (HasFilesMade size h h) a b (λ s. Unit {0}) (trivial a) (λ o s was syncs. same_made size h o s (λ n. ap (λ (x : Option (ℕ × ℕ)). cond (is_data n) x None) (synced_info (finite.get o n) (finite.get s n) (syncs n)))) went;
 }
   where
     trivial : (h : Option Past) → Told h (λ s. Unit {0})

@@ -34,7 +34,7 @@ abbrev pub IsNumbered : ℕ → ℕ → FileName → Type 0
 IsNumbered first last n = (k : ℕ) × (first < k) × (k ≤ last) × (n ≡ data_name k)
 
 -- Under the name of each number above the first one, up to the last, stands a data file of this size with the number as its id; each other name has the data file that it had, or none as before.
-pub record HasMade (size first last : ℕ) (o s : Files) : Type 0 where
+pub record HasFilesMade (size first last : ℕ) (o s : Files) : Type 0 where
   pub made : (k : ℕ) → first < k → k ≤ last → data_file_at (data_name k) s ≡ Some (k, size)
   pub others : (n : FileName) → (IsNumbered first last n → ⊥) → data_file_at n s ≡ data_file_at n o
 
@@ -54,7 +54,7 @@ HasId id s n = (len : ℕ) × (data_file_at n s ≡ Some (id, len))
 abbrev pub IsPreparing : ℕ → ℕ → FileName → Type 0
 IsPreparing first last n = (k : ℕ) × (first ≤ k) × (k ≤ last) × ((n ≡ data_name k) ⊎ (n ≡ temporary_name k))
 
--- the file in use, by its name, or one of those that are prepared
+-- the file in use, by its name, or one that is prepared now
 abbrev pub IsUsedOrNew : FileName → ℕ → ℕ → FileName → Type 0
 IsUsedOrNew used first last n = (n ≡ used) ⊎ IsPreparing first last n
 
@@ -80,7 +80,7 @@ IsRenewed first last n = IsTrue (is_leftover n) ⊎ IsNumbered first last n
 -- The calls kept the files so, at each moment and in the end, and the data files in the end are those that there were and those of the numbers above the first one, up to the last.
 pub record Works (Keeps : Files → Files → Type 0) (size first last : ℕ) (old new : Option Past) : Type 0 where
   pub keeps : Leaves Keeps Keeps old new
-  pub files : Told old (λ o. Told new (HasMade size first last o))
+  pub files : Told old (λ o. Told new (HasFilesMade size first last o))
 
 -- The same up to a number that is the most where all was done, and else that or the one before it.
 pub record Worked (done : Bool) (Keeps : Files → Files → Type 0) (size first most : ℕ) (old new : Option Past) : Type 0 where
@@ -97,11 +97,12 @@ WorkedTo done size from first reached old new = (most : ℕ) × (most ≤ 2 ^ 31
 
 -- ---- an opening
 
--- What an opening leaves, on every disk: no file is written to but leftovers and the files of the new numbers, up to the highest; the data files are those that there were and those of the new numbers; and they are as many as the configuration asks for, or the numbers are spent.
+-- What an opening leaves, on a disk that tells: no file is written to but leftovers and the files of the new numbers, up to the highest; the data files are those that there were and those of the new numbers; and they are as many as the configuration asks for, or the numbers are spent.
 pub record HasOpenedFiles (config : Config) (highest : ℕ) (old new : Option Past) : Type 0 where
   pub files : ℕ
   pub before : ℕ
   pub had : Told old (HasNumbers files before)
+  pub begun : before < highest
   pub works : Works (SyncsAllBut (IsRenewed before highest)) config.file_size before highest old new
   pub count : Told new (HasCount (files + (highest - before)))
   pub enough : (config.min_files ≤ files + (highest - before)) ⊎ (highest ≡ 2 ^ 31 - 1)

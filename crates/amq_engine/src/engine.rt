@@ -12,7 +12,7 @@ ghost use Rattle.amq_buffer.specs.Buffered.{is_due};
 ghost use Rattle.amq_loader.specs.Loads.{IsStateOf, IsTidy};
 ghost use Rattle.amq_engine.specs.Directory.{IsJournal};
 ghost use Rattle.amq_engine.specs.Opening.{HasBase, AreRolledBack, AreFirstRollbacks, IsFilled, StandsFrom, HasOpenCause};
-ghost use Rattle.amq_engine.specs.DataFiles.{HasMade, HasSameFiles, HasId, LeavesAllBut, IsCommandFile, HasOpenedFiles};
+ghost use Rattle.amq_engine.specs.DataFiles.{HasFilesMade, HasSameFiles, HasId, LeavesAllBut, IsCommandFile, HasOpenedFiles};
 ghost use Rattle.amq_engine.specs.Receipts.{IsCrashSafe, GoesOn, BeginsBySyncs};
 ghost use Rattle.amq_engine.specs.Engine.{Notes, IsCommandAnswer, IsCommandRefusal, IsChronicle, IsBlank, AreSpentAtLast, HasCause, IsFlushRefusal, closed_after, durable_after, fault_refusal, closed_by, receipted, IsReply, prepares, asks_disk, flushed, behind_command, BehindRefused, behind_tick, must_flush, at_clock, is_noted, writes_first};
 ghost use Rattle.amq_engine.specs.Owed.{AreOwedAtOpening};
@@ -203,8 +203,8 @@ impl<D: Disk, C: Chronicle> Engine<D, C> {
         ensures later { (D.faults self.old.disk).0 ≤ (D.faults self.new.disk).0 }
         ensures stands { (first : ℕ) → IfSome (C.lists self.old.chronicle) (StandsFrom self.old.config first self.old.file self.old.end) → IfSome (C.lists self.new.chronicle) (StandsFrom self.new.config first self.new.file self.new.end) }
         ensures spares { LeavesAllBut (IsCommandFile self.old command) (D.past self.old.disk) (D.past self.new.disk) }
-        ensures files { OnOk result (Told (D.past self.old.disk) (λ o. Told (D.past self.new.disk) (HasMade self.old.config.file_size self.old.highest self.new.highest o))) }
-        ensures failed_files { OnErr result (Told (D.past self.old.disk) (λ o. Told (D.past self.new.disk) (λ s. HasSameFiles o s ⊎ (IsTrue (prepares self.old command) × HasMade self.old.config.file_size self.old.highest (self.old.highest + 1) o s)))) }
+        ensures files { OnOk result (Told (D.past self.old.disk) (λ o. Told (D.past self.new.disk) (HasFilesMade self.old.config.file_size self.old.highest self.new.highest o))) }
+        ensures failed_files { OnErr result (Told (D.past self.old.disk) (λ o. Told (D.past self.new.disk) (λ s. HasSameFiles o s ⊎ (IsTrue (prepares self.old command) × HasFilesMade self.old.config.file_size self.old.highest (self.old.highest + 1) o s)))) }
         ensures goes_on { GoesOn (D.past self.old.disk) (D.past self.new.disk) }
         ensures tidy { is_noted result ≡ true → Told (D.past self.old.disk) IsTidy → Told (D.past self.new.disk) IsTidy }
         ensures chronicle { IfSome (C.lists self.new.chronicle) (IsChronicle (D.past self.new.disk) (D.moment self.new.disk) self.new.config self.new.appended self.new.durable) }

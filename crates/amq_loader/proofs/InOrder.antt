@@ -7,7 +7,7 @@ use Rattle.amq_model.specs.RecordAt.{Spot, whole_len}
 use Rattle.amq_model.specs.Scan.{IsScanFrom}
 use Rattle.amq_model.specs.Records.{IsBefore}
 use Rattle.amq_model.specs.Directory.{FileOf, placed, IsJoined}
-use Rattle.amq_model.specs.InFiles.{IsInOne, EndsBefore, AreApart, AreInFiles}
+use Rattle.amq_model.specs.InFiles.{IsInOne, EndsBefore, NoneOverlap, AreInFiles}
 use Rattle.amq_scan.proofs.Scans.{takes_room}
 use Rattle.amq_loader.specs.declared.loaded.Loaded.{Loaded}
 use Rattle.amq_loader.specs.Loads.{data_file, AreRising, IsLoad}
@@ -60,7 +60,7 @@ one_before g files l are = record {
   more : (f : DataFile) → Contains files f → Contains (g ∷ files) f
   more f has = (suc has.0, omega (arith, has.1), has.2)
 
-  still : (l : List Placed) → AreApart files l → AreApart (g ∷ files) l
+  still : (l : List Placed) → NoneOverlap files l → NoneOverlap (g ∷ files) l
   still [] apart = tt
   still (p ∷ ps) apart = (All-weaker (EndsBefore files p) (EndsBefore (g ∷ files) p) (λ q ends same. (let e = ends same in (e.0, more e.0 e.1, e.2, e.3))) ps apart.0, still ps apart.1)
 

@@ -20,12 +20,12 @@ abbrev pub EndsBefore : List DataFile → Placed → Placed → Type 0
 EndsBefore files p q = p.file ≡ q.file → (f : DataFile) × Contains files f × (f.id ≡ p.file) × (p.place + whole_len f.version p.rec ≤ q.place)
 
 -- each ends before those behind it
-abbrev pub AreApart : List DataFile → List Placed → Type 0
-AreApart files [] = Unit {0}
-AreApart files (p ∷ ps) = All (EndsBefore files p) ps × AreApart files ps
+abbrev pub NoneOverlap : List DataFile → List Placed → Type 0
+NoneOverlap files [] = Unit {0}
+NoneOverlap files (p ∷ ps) = All (EndsBefore files p) ps × NoneOverlap files ps
 
 -- The records are in order, each stands in one of these files and ends within its length, and no two of one file overlap.
 pub record AreInFiles (files : List DataFile) (base : List Placed) : Type 0 where
   pub order : IsInOrder base
   pub each : All (IsInOne files) base
-  pub apart : AreApart files base
+  pub apart : NoneOverlap files base

@@ -91,7 +91,7 @@ returns-in-Ok-clause-stands g c =
     let config = c.args.config in
     let same : e.config ≡ config = c.in-Ok.ensures.opened.0 in
     inr (told_on config (rolled_back e.chronicle.base) e.file e.end e.highest e.free (lists_of e.chronicle) (lists_of c.run_on.result.2) (g.D.Disk.past c.args.disk) c.in-Ok.ensures.files
-        (λ first stands. subst (λ (k : Config). StandBehind k first 16 (history_of c.run_on.result.2.steps.items)) same (c.run_on.ensures.stands first (subst (λ (k : Config). StandsFrom k first e.file e.end (lists_of e.chronicle)) (sym same) stands))))
+    (λ first stands. subst (λ (k : Config). StandBehind k first 16 (history_of c.run_on.result.2.steps.items)) same (c.run_on.ensures.stands first (subst (λ (k : Config). StandsFrom k first e.file e.end (lists_of e.chronicle)) (sym same) stands))))
 
 pub returns-in-Err-clause-stands : goal.returns-in-Err-clause-stands
 returns-in-Err-clause-stands g c =

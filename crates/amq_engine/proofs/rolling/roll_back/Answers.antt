@@ -64,7 +64,7 @@ loop-done-preserved g c =
       placed =
           let next = c.in_ok-roll_back_next.ensures.stepped in
           placed_next c.args.config.now c.args.tail.now.file.id c.args.txs.now c.loop-done.done _ c.loop-done.tail.file.id (end_of_tail c.loop-done.tail) (g.C.Chronicle.lists c.loop-done.chronicle) (g.C.Chronicle.lists c.roll_back_next.new.chronicle) next.0
-              (slice_get-get_or c.args.txs.now c.loop-done.done _ (grind (arith, c.loop-done-test.true))) c.loop-done.invariant.placed c.loop-done.invariant.ends next.1 next.2;
+          (slice_get-get_or c.args.txs.now c.loop-done.done _ (grind (arith, c.loop-done-test.true))) c.loop-done.invariant.placed c.loop-done.invariant.ends next.1 next.2;
       faults = (omega (arith, c.loop-done.invariant.faults.0, c.in_ok-roll_back_next.ensures.faults.0), c.in_ok-roll_back_next.ensures.faults.1 ∙ c.loop-done.invariant.faults.1);
       later = omega (arith, c.loop-done.invariant.later, c.roll_back_next.ensures.later);
       tidy = λ tidy. c.in_ok-roll_back_next.ensures.tidy (c.loop-done.invariant.tidy tidy);

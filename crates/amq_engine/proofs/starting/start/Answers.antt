@@ -231,6 +231,7 @@ returns-clause-opened_files g c =
       files = files;
       before = begun.0;
       had = begun.4;
+      begun = omega (arith, ap (λ (f : PoolFile). f.id) begun.1, c.in_ok-complete.ensures.later_file, c.in_ok-complete.ensures.filled.0);
       works = done;
       count = count_told (SyncsAllBut (IsRenewed begun.0 highest)) config.file_size files begun.0 highest (past c.args.disk.now) (past c.complete.new.disk) (omega (arith, to.3.least, to.3.within, to.2 refl)) (omega (arith, valid.sound.parts.numbers)) begun.4 done;
       enough = enough_by config files begun.0 first tail.file.id highest (min (config.min_files - (files + (tail.file.id + 1 - first))) (2 ^ 31 - 1 - tail.file.id)) (ap (λ (f : PoolFile). f.id) begun.1) c.in_ok-complete.ensures.later_file valid.sound.parts.numbers refl c.in_ok-complete.ensures.filled.0;

@@ -32,7 +32,7 @@ use Rattle.amq_engine.specs.Opening.{StandsFrom}
 use Rattle.amq_model.specs.Leaves.{Told, SparesAllBut}
 use Rattle.amq_model.specs.declared.config.Config.{Config}
 use Rattle.amq_model.specs.Files.{Files}
-use Rattle.amq_engine.specs.DataFiles.{HasMade, HasSameFiles, HasId, IsPreparing, IsUsedOrNew, LeavesAllBut, IsCommandFile}
+use Rattle.amq_engine.specs.DataFiles.{HasFilesMade, HasSameFiles, HasId, IsPreparing, IsUsedOrNew, LeavesAllBut, IsCommandFile}
 use Rattle.amq_engine.proofs.DataFiles.{worked_works}
 use Rattle.amq_engine.proofs.FilesTold.{sound_start, sound_used, leaves_told, still_alone, same_failed, touched_by, failed_told, readied_most}
 use Rattle.amq_loader.specs.Loads.{IsTidy}
@@ -499,7 +499,7 @@ returns-in-Some-refusal_of-clause-stands g c =
     let lists = g.C.Chronicle.lists in
     subst (λ v. (first : ℕ) → IfSome (lists v.chronicle) (StandsFrom v.config first v.file v.end) → IfSome (lists c.step.new.self) (StandsFrom e.config first e.tail.file.id (end_of_tail e.tail))) c.self.view_is
     (λ first stands. stands_bare e.config first e.tail.file.id (end_of_tail e.tail) e.tail.file.id (end_of_tail e.tail) (lists c.room_for.new.chronicle) (lists c.step.new.self) _ refl c.step.ensures.noted refl refl
-        (stands_same e.config first e.tail.file.id (end_of_tail e.tail) e.tail.file.id (end_of_tail e.tail) (lists e.chronicle) (lists c.room_for.new.chronicle) (ap steps_in c.room_for.ensures.lists) refl refl stands))
+    (stands_same e.config first e.tail.file.id (end_of_tail e.tail) e.tail.file.id (end_of_tail e.tail) (lists e.chronicle) (lists c.room_for.new.chronicle) (ap steps_in c.room_for.ensures.lists) refl refl stands))
 
 pub returns-in-Err-ready-clause-stands : goal.returns-in-Err-ready-clause-stands
 returns-in-Err-ready-clause-stands g c =
@@ -524,8 +524,8 @@ returns-clause-stands g c =
     let same : steps_in (lists c.ready.new.chronicle) ≡ steps_in (lists e.chronicle) = same_steps _ e.tail.appended _ (lists c.room_for.new.chronicle) (lists c.ready.new.chronicle) c.in_default-ready.ensures.receipt ∙ ap steps_in c.room_for.ensures.lists in
     subst (λ v. (first : ℕ) → IfSome (lists v.chronicle) (StandsFrom v.config first v.file v.end) → IfSome (lists c.step-2.new.self) (StandsFrom e.config first t.file.id (end_of_tail t))) c.self.view_is
     (λ first stands. stands_put e.config first (state_of e.table) e.pool e.tail c.ready.new.tail t c.self.invariant.sound.parts c.passes-moves.result _ e.clock c.numbered-rec.result _ (lists c.ready.new.chronicle) (lists c.step-2.new.self) (moves ∙ ap (passes e.config.file_size (end_of_tail e.tail)) long)
-        c.in_default-ready.ensures.ok c.put_record-reply.ensures.tail c.put_record-reply.ensures.placed c.step-2.ensures.noted
-        (stands_same e.config first e.tail.file.id (end_of_tail e.tail) e.tail.file.id (end_of_tail e.tail) (lists e.chronicle) (lists c.ready.new.chronicle) same refl refl stands))
+    c.in_default-ready.ensures.ok c.put_record-reply.ensures.tail c.put_record-reply.ensures.placed c.step-2.ensures.noted
+    (stands_same e.config first e.tail.file.id (end_of_tail e.tail) e.tail.file.id (end_of_tail e.tail) (lists e.chronicle) (lists c.ready.new.chronicle) same refl refl stands))
 
 pub returns-in-Some-clause-tidy : goal.returns-in-Some-clause-tidy
 returns-in-Some-clause-tidy g c noted tidy = tidy
@@ -560,10 +560,10 @@ pub returns-in-Some-clause-failed_files : goal.returns-in-Some-clause-failed_fil
 returns-in-Some-clause-failed_files g c = same_failed _ (g.D.Disk.past c.args.self.now.disk)
 
 pub returns-in-Err-clause-failed_files : goal.returns-in-Err-clause-failed_files
-returns-in-Err-clause-failed_files g c = subst (λ v. Told (g.D.Disk.past v.disk) (λ o. Told (g.D.Disk.past c.self.inside.disk) (λ s. HasSameFiles o s ⊎ (IsTrue (prepares v c.args.command) × HasMade v.config.file_size v.highest (v.highest + 1) o s)))) c.self.view_is (same_failed _ (g.D.Disk.past c.self.inside.disk))
+returns-in-Err-clause-failed_files g c = subst (λ v. Told (g.D.Disk.past v.disk) (λ o. Told (g.D.Disk.past c.self.inside.disk) (λ s. HasSameFiles o s ⊎ (IsTrue (prepares v c.args.command) × HasFilesMade v.config.file_size v.highest (v.highest + 1) o s)))) c.self.view_is (same_failed _ (g.D.Disk.past c.self.inside.disk))
 
 pub returns-in-Some-refusal_of-clause-failed_files : goal.returns-in-Some-refusal_of-clause-failed_files
-returns-in-Some-refusal_of-clause-failed_files g c = subst (λ v. Told (g.D.Disk.past v.disk) (λ o. Told (g.D.Disk.past c.self.inside.disk) (λ s. HasSameFiles o s ⊎ (IsTrue (prepares v c.args.command) × HasMade v.config.file_size v.highest (v.highest + 1) o s)))) c.self.view_is (same_failed _ (g.D.Disk.past c.self.inside.disk))
+returns-in-Some-refusal_of-clause-failed_files g c = subst (λ v. Told (g.D.Disk.past v.disk) (λ o. Told (g.D.Disk.past c.self.inside.disk) (λ s. HasSameFiles o s ⊎ (IsTrue (prepares v c.args.command) × HasFilesMade v.config.file_size v.highest (v.highest + 1) o s)))) c.self.view_is (same_failed _ (g.D.Disk.past c.self.inside.disk))
 
 pub returns-in-Err-ready-clause-spares : goal.returns-in-Err-ready-clause-spares
 returns-in-Err-ready-clause-spares g c =
@@ -611,9 +611,9 @@ returns-in-Err-ready-clause-failed_files g c =
     let asks : b ≡ prepares c.args.self.now c.args.command =
     ap (λ (m : Bool). m && is_nil e.pool.prepared) moves ∙ ap (λ (k : Bool). passes e.config.file_size (end_of_tail e.tail) (record_len c.args.command) && k) (sym (is_nil_ids e.pool.prepared)) ∙ ap (λ v. prepares v c.args.command) c.self.view_is in
     let h = e.pool.highest in
-    subst (λ v. Told (past v.disk) (λ o. Told (past c.ready.new.disk) (λ s. HasSameFiles o s ⊎ (IsTrue (prepares c.args.self.now c.args.command) × HasMade v.config.file_size v.highest (v.highest + 1) o s)))) c.self.view_is
-    (subst (λ (k : Bool). Told (past e.disk) (λ o. Told (past c.ready.new.disk) (λ s. HasSameFiles o s ⊎ (IsTrue k × HasMade e.config.file_size h (h + 1) o s)))) asks
-    (subst (λ (k : Config). Told (past e.disk) (λ o. Told (past c.ready.new.disk) (λ s. HasSameFiles o s ⊎ (IsTrue b × HasMade k.file_size h (h + 1) o s)))) c.self.invariant.sound.parts.same_config
+    subst (λ v. Told (past v.disk) (λ o. Told (past c.ready.new.disk) (λ s. HasSameFiles o s ⊎ (IsTrue (prepares c.args.self.now c.args.command) × HasFilesMade v.config.file_size v.highest (v.highest + 1) o s)))) c.self.view_is
+    (subst (λ (k : Bool). Told (past e.disk) (λ o. Told (past c.ready.new.disk) (λ s. HasSameFiles o s ⊎ (IsTrue k × HasFilesMade e.config.file_size h (h + 1) o s)))) asks
+    (subst (λ (k : Config). Told (past e.disk) (λ o. Told (past c.ready.new.disk) (λ s. HasSameFiles o s ⊎ (IsTrue b × HasFilesMade k.file_size h (h + 1) o s)))) c.self.invariant.sound.parts.same_config
     (failed_told (SparesAllBut (IsUsedOrNew e.tail.file.name (h + 1) (cond b (h + 1) h))) e.pool.config.file_size h b (past e.disk) (past c.ready.new.disk) c.in-Err-ready.ensures.failed_works)))
 
 pub returns-clause-files : goal.returns-clause-files
@@ -630,6 +630,6 @@ returns-clause-files g c =
     let h = e.pool.highest in
     let most : cond b (h + 1) h ≡ c.ready.new.pool.highest = sym (ap (λ (p : PoolOf). p.highest) c.in_default-ready.ensures.pool ∙ readied_most c.passes-moves.result e.pool) in
     let K : Files → Files → Type 0 = SparesAllBut (IsUsedOrNew e.tail.file.name (h + 1) (cond b (h + 1) h)) in
-    subst (λ v. Told (past v.disk) (λ o. Told (past c.ready.new.disk) (HasMade v.config.file_size v.highest c.ready.new.pool.highest o))) c.self.view_is
-    (subst (λ (k : Config). Told (past e.disk) (λ o. Told (past c.ready.new.disk) (HasMade k.file_size h c.ready.new.pool.highest o))) c.self.invariant.sound.parts.same_config
-    (subst (λ (n : ℕ). Told (past e.disk) (λ o. Told (past c.ready.new.disk) (HasMade e.pool.config.file_size h n o))) most (worked_works K e.pool.config.file_size h (cond b (h + 1) h) (past e.disk) (past c.ready.new.disk) c.in_default-ready.ensures.works).files))
+    subst (λ v. Told (past v.disk) (λ o. Told (past c.ready.new.disk) (HasFilesMade v.config.file_size v.highest c.ready.new.pool.highest o))) c.self.view_is
+    (subst (λ (k : Config). Told (past e.disk) (λ o. Told (past c.ready.new.disk) (HasFilesMade k.file_size h c.ready.new.pool.highest o))) c.self.invariant.sound.parts.same_config
+    (subst (λ (n : ℕ). Told (past e.disk) (λ o. Told (past c.ready.new.disk) (HasFilesMade e.pool.config.file_size h n o))) most (worked_works K e.pool.config.file_size h (cond b (h + 1) h) (past e.disk) (past c.ready.new.disk) c.in_default-ready.ensures.works).files))
