@@ -27,6 +27,7 @@ const PIECE: usize = 65_536;
 pub struct Folder<R: Files<File = File> + AllocGlobal + Clone + Drop> {
     runtime: R,
     path: String,
+    /// The folder, once its names were made durable.
     handle: Option<File>,
     in_use: Option<OpenFile>,
 }
@@ -129,9 +130,14 @@ impl<R: Files<File = File> + AllocGlobal + Clone + Drop> Folder<R> {
         self.open(name)?.write_all_at(bytes, place).map_err(failed)
     }
 
-    /// Makes the bytes of the file durable.
+    /// Makes the bytes of the file durable. The first call makes the names in the folder durable too:
+    /// whoever made its files may not have.
     pub fn sync(&mut self, name: &str) -> Result<(), DiskError> {
-        self.open(name)?.sync_data().map_err(failed)
+        self.open(name)?.sync_data().map_err(failed)?;
+        if self.handle.is_none() {
+            self.sync_names().map_err(failed)?;
+        }
+        Ok(())
     }
 
     /// Renames the file, and makes that durable.
@@ -187,7 +193,9 @@ impl<R: Files<File = File> + AllocGlobal + Clone + Drop> Folder<R> {
             Some(handle) => handle,
             None => File::open(&self.runtime, self.path.as_str())?,
         };
-        self.handle.insert(handle).sync_all()
+        handle.sync_all()?;
+        self.handle = Some(handle);
+        Ok(())
     }
 
     fn path_of(&self, name: &str) -> Result<PathBuf, DiskError> {
