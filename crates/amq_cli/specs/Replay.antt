@@ -26,7 +26,10 @@ abbrev pub is_built : Line → Bool
 is_built l.Reclaim = false
 is_built l.Compact = false
 is_built (l.Step steps) = false
-is_built _ = true
+is_built (l.Plain command) = true
+is_built (l.Labelled label command) = true
+is_built (l.Bind label tx) = true
+is_built (l.Tick now) = true
 
 -- the lines of the one producer, if a replay takes each of them
 abbrev pub built_lines : List (List Line) → Option (List Line)
@@ -51,14 +54,39 @@ begun_number (Some answer) = elim answer [ Done reply ↦ elim reply [ Begun tx 
 -- it begins a transaction
 abbrev pub is_begin : Command → Bool
 is_begin c.Begin = true
-is_begin _ = false
+is_begin (c.Add id user_type body) = false
+is_begin (c.Update id user_type body) = false
+is_begin (c.Delete id) = false
+is_begin (c.AddTx tx id user_type body) = false
+is_begin (c.UpdateTx tx id user_type body) = false
+is_begin (c.DeleteTx tx id body) = false
+is_begin (c.Prepare tx extra) = false
+is_begin (c.Commit tx) = false
+is_begin (c.Rollback tx) = false
+is_begin c.Flush = false
 
 -- the number that a label stands for behind one more line
 abbrev pub number_behind : List ℕ → ℕ → Answered → ℕ
 number_behind label before x = elim x.0 [
-  | l.Labelled name command ↦ elim command [ c.Begin ↦ (if same name label then begun_number x.1 else before) | _ ↦ before ]
+  | l.Labelled name command ↦ elim command [
+    | c.Begin ↦ (if same name label then begun_number x.1 else before)
+    | c.Add id user_type body ↦ before
+    | c.Update id user_type body ↦ before
+    | c.Delete id ↦ before
+    | c.AddTx tx id user_type body ↦ before
+    | c.UpdateTx tx id user_type body ↦ before
+    | c.DeleteTx tx id body ↦ before
+    | c.Prepare tx extra ↦ before
+    | c.Commit tx ↦ before
+    | c.Rollback tx ↦ before
+    | c.Flush ↦ before
+  ]
   | l.Bind name tx ↦ (if same name label then tx else before)
-  | _ ↦ before
+  | l.Plain command ↦ before
+  | l.Tick now ↦ before
+  | l.Reclaim ↦ before
+  | l.Compact ↦ before
+  | l.Step steps ↦ before
 ]
 
 -- the number that a label stands for: that of its last begin or bind
@@ -73,7 +101,11 @@ with_number n (c.DeleteTx tx id body) = c.DeleteTx n id body
 with_number n (c.Prepare tx extra) = c.Prepare n extra
 with_number n (c.Commit tx) = c.Commit n
 with_number n (c.Rollback tx) = c.Rollback n
-with_number n command = command
+with_number n (c.Add id user_type body) = c.Add id user_type body
+with_number n (c.Update id user_type body) = c.Update id user_type body
+with_number n (c.Delete id) = c.Delete id
+with_number n c.Begin = c.Begin
+with_number n c.Flush = c.Flush
 
 -- the command of a line behind these, its label replaced by the number that it stands for
 abbrev pub sent : List Answered → Line → Option Command
@@ -104,7 +136,15 @@ counted x = elim x.1 [ None ↦ None | Some answer ↦ elim answer [ Done reply 
 
 -- the moment of a tick
 abbrev pub ticked : Answered → Option ℕ
-ticked x = elim x.0 [ l.Tick now ↦ Some now | _ ↦ None ]
+ticked x = elim x.0 [
+  | l.Tick now ↦ Some now
+  | l.Plain command ↦ None
+  | l.Labelled label command ↦ None
+  | l.Bind label tx ↦ None
+  | l.Reclaim ↦ None
+  | l.Compact ↦ None
+  | l.Step steps ↦ None
+]
 
 -- the greatest moment of the ticks among these lines, 0 where there is none
 abbrev pub clock_of : List Answered → ℕ
@@ -112,7 +152,18 @@ clock_of answered = fold max 0 (filter_map ticked answered)
 
 -- the line of text of a line of the script
 abbrev pub line_of : Answered → List ℕ
-line_of x = elim x.1 [ Some answer ↦ reply_line answer | None ↦ elim x.0 [ l.Bind label tx ↦ bound_line tx | _ ↦ [] ] ]
+line_of x = elim x.1 [
+  | Some answer ↦ reply_line answer
+  | None ↦ elim x.0 [
+    | l.Bind label tx ↦ bound_line tx
+    | l.Plain command ↦ []
+    | l.Labelled label command ↦ []
+    | l.Tick now ↦ []
+    | l.Reclaim ↦ []
+    | l.Compact ↦ []
+    | l.Step steps ↦ []
+  ]
+]
 
 -- one line of text a line of the script
 abbrev pub reply_lines : List Answered → List ℕ

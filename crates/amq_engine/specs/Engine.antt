@@ -353,12 +353,29 @@ abbrev pub IsReply : ℕ → Command → Reply → Type 0
 IsReply appended c.Begin (Begun tx) = Unit {0}
 IsReply appended c.Begin _ = ⊥
 IsReply appended c.Flush reply = reply ≡ Durable appended
-IsReply appended _ reply = reply ≡ Appended appended
+IsReply appended (c.Add id user_type body) reply = reply ≡ Appended appended
+IsReply appended (c.Update id user_type body) reply = reply ≡ Appended appended
+IsReply appended (c.Delete id) reply = reply ≡ Appended appended
+IsReply appended (c.AddTx tx id user_type body) reply = reply ≡ Appended appended
+IsReply appended (c.UpdateTx tx id user_type body) reply = reply ≡ Appended appended
+IsReply appended (c.DeleteTx tx id body) reply = reply ≡ Appended appended
+IsReply appended (c.Prepare tx extra) reply = reply ≡ Appended appended
+IsReply appended (c.Commit tx) reply = reply ≡ Appended appended
+IsReply appended (c.Rollback tx) reply = reply ≡ Appended appended
 
 -- it asks for a flush
 abbrev pub is_flush : Command → Bool
 is_flush c.Flush = true
-is_flush _ = false
+is_flush (c.Add id user_type body) = false
+is_flush (c.Update id user_type body) = false
+is_flush (c.Delete id) = false
+is_flush c.Begin = false
+is_flush (c.AddTx tx id user_type body) = false
+is_flush (c.UpdateTx tx id user_type body) = false
+is_flush (c.DeleteTx tx id body) = false
+is_flush (c.Prepare tx extra) = false
+is_flush (c.Commit tx) = false
+is_flush (c.Rollback tx) = false
 
 -- the length of the record of a command, if it has one
 abbrev pub record_len : Command → Option ℕ

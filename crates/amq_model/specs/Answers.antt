@@ -26,7 +26,11 @@ tx_of (c.DeleteTx tx id body) = Some tx
 tx_of (c.Prepare tx extra) = Some tx
 tx_of (c.Commit tx) = Some tx
 tx_of (c.Rollback tx) = Some tx
-tx_of _ = None
+tx_of (c.Add id user_type body) = None
+tx_of (c.Update id user_type body) = None
+tx_of (c.Delete id) = None
+tx_of c.Begin = None
+tx_of c.Flush = None
 
 -- the id that a command names
 abbrev pub id_of : Command → Option ℕ
@@ -36,13 +40,25 @@ id_of (c.Delete id) = Some id
 id_of (c.AddTx tx id user_type body) = Some id
 id_of (c.UpdateTx tx id user_type body) = Some id
 id_of (c.DeleteTx tx id body) = Some id
-id_of _ = None
+id_of c.Begin = None
+id_of (c.Prepare tx extra) = None
+id_of (c.Commit tx) = None
+id_of (c.Rollback tx) = None
+id_of c.Flush = None
 
 -- an add, plain or of a transaction
 abbrev pub is_add : Command → Bool
 is_add (c.Add id user_type body) = true
 is_add (c.AddTx tx id user_type body) = true
-is_add _ = false
+is_add (c.Update id user_type body) = false
+is_add (c.Delete id) = false
+is_add c.Begin = false
+is_add (c.UpdateTx tx id user_type body) = false
+is_add (c.DeleteTx tx id body) = false
+is_add (c.Prepare tx extra) = false
+is_add (c.Commit tx) = false
+is_add (c.Rollback tx) = false
+is_add c.Flush = false
 
 -- an add, update, delete or prepare of a transaction
 abbrev pub works_in_tx : Command → Bool
@@ -50,7 +66,13 @@ works_in_tx (c.AddTx tx id user_type body) = true
 works_in_tx (c.UpdateTx tx id user_type body) = true
 works_in_tx (c.DeleteTx tx id body) = true
 works_in_tx (c.Prepare tx extra) = true
-works_in_tx _ = false
+works_in_tx (c.Add id user_type body) = false
+works_in_tx (c.Update id user_type body) = false
+works_in_tx (c.Delete id) = false
+works_in_tx c.Begin = false
+works_in_tx (c.Commit tx) = false
+works_in_tx (c.Rollback tx) = false
+works_in_tx c.Flush = false
 
 -- the record of a command, with this number of records
 abbrev pub record_of : Command → ℕ → Option Record
@@ -97,7 +119,19 @@ abbrev pub open_behind : ℕ → Bool → Step → Bool
 open_behind tx before s = elim s.answer [
   | Done reply ↦ elim reply [
     | Begun n ↦ before || n == tx
-    | _ ↦ elim s.command [ c.Commit n ↦ before && not (n == tx) | c.Rollback n ↦ before && not (n == tx) | _ ↦ before ]
+    | _ ↦ elim s.command [
+      | c.Add id user_type body ↦ before
+      | c.Update id user_type body ↦ before
+      | c.Delete id ↦ before
+      | c.Begin ↦ before
+      | c.AddTx n id user_type body ↦ before
+      | c.UpdateTx n id user_type body ↦ before
+      | c.DeleteTx n id body ↦ before
+      | c.Prepare n extra ↦ before
+      | c.Commit n ↦ before && not (n == tx)
+      | c.Rollback n ↦ before && not (n == tx)
+      | c.Flush ↦ before
+    ]
   ]
   | Refused refusal ↦ before
 ]
@@ -166,7 +200,19 @@ id_refusal base steps command = elim (id_of command) [
 
 -- `TxNumbersSpent`: a begin, and no number is left
 abbrev pub spent : List Placed → List Step → Command → Option Refusal
-spent base steps command = elim command [ c.Begin ↦ (if nat_le (2 ^ 63 - 1) (highest base steps) then Some (TxNumbersSpent (highest base steps)) else None) | _ ↦ None ]
+spent base steps command = elim command [
+  | c.Begin ↦ (if nat_le (2 ^ 63 - 1) (highest base steps) then Some (TxNumbersSpent (highest base steps)) else None)
+  | c.Add id user_type body ↦ None
+  | c.Update id user_type body ↦ None
+  | c.Delete id ↦ None
+  | c.AddTx tx id user_type body ↦ None
+  | c.UpdateTx tx id user_type body ↦ None
+  | c.DeleteTx tx id body ↦ None
+  | c.Prepare tx extra ↦ None
+  | c.Commit tx ↦ None
+  | c.Rollback tx ↦ None
+  | c.Flush ↦ None
+]
 
 -- the first that there is
 abbrev pub first_some : {X : Type 0} → List (Option X) → Option X
@@ -178,7 +224,15 @@ abbrev pub accepted : List Placed → List Step → Command → Answer
 accepted base steps command = elim command [
   | c.Begin ↦ Done (Begun (highest base steps + 1))
   | c.Flush ↦ Done (Durable (length (history_of steps)))
-  | _ ↦ Done (Appended (length (history_of steps)))
+  | c.Add id user_type body ↦ Done (Appended (length (history_of steps)))
+  | c.Update id user_type body ↦ Done (Appended (length (history_of steps)))
+  | c.Delete id ↦ Done (Appended (length (history_of steps)))
+  | c.AddTx tx id user_type body ↦ Done (Appended (length (history_of steps)))
+  | c.UpdateTx tx id user_type body ↦ Done (Appended (length (history_of steps)))
+  | c.DeleteTx tx id body ↦ Done (Appended (length (history_of steps)))
+  | c.Prepare tx extra ↦ Done (Appended (length (history_of steps)))
+  | c.Commit tx ↦ Done (Appended (length (history_of steps)))
+  | c.Rollback tx ↦ Done (Appended (length (history_of steps)))
 ]
 
 -- the refusal of the journal of one thread: the first of `TooLarge`, `NoTx`, `TxPrepared`, `Held`, `AlreadyLive`, `NoRecord` and `TxNumbersSpent` that holds

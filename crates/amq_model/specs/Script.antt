@@ -236,9 +236,22 @@ is_section (Says line) = false
 -- the label that a line names: those of `begin` and `bind`
 abbrev pub label_named : Line → Option (List ℕ)
 label_named (l.Labelled label c.Begin) = Some label
-label_named (l.Labelled label _) = None
+label_named (l.Labelled label (c.Add id user_type body)) = None
+label_named (l.Labelled label (c.Update id user_type body)) = None
+label_named (l.Labelled label (c.Delete id)) = None
+label_named (l.Labelled label (c.AddTx tx id user_type body)) = None
+label_named (l.Labelled label (c.UpdateTx tx id user_type body)) = None
+label_named (l.Labelled label (c.DeleteTx tx id body)) = None
+label_named (l.Labelled label (c.Prepare tx extra)) = None
+label_named (l.Labelled label (c.Commit tx)) = None
+label_named (l.Labelled label (c.Rollback tx)) = None
+label_named (l.Labelled label c.Flush) = None
 label_named (l.Bind label tx) = Some label
-label_named _ = None
+label_named (l.Plain command) = None
+label_named (l.Tick now) = None
+label_named l.Reclaim = None
+label_named l.Compact = None
+label_named (l.Step steps) = None
 
 -- the labels that a section has named, one line further on
 abbrev pub labels_behind : List (List ℕ) → Said → List (List ℕ)

@@ -72,7 +72,19 @@ state_after c.Flush file s = s
 
 -- the number that the command is given, if it is a Begin
 abbrev pub number_given : TxState → Command → Option ℕ
-number_given s command = elim command [ c.Begin ↦ Some (s.highest + 1) | _ ↦ None ]
+number_given s command = elim command [
+  | c.Begin ↦ Some (s.highest + 1)
+  | c.Add id user_type body ↦ None
+  | c.Update id user_type body ↦ None
+  | c.Delete id ↦ None
+  | c.AddTx tx id user_type body ↦ None
+  | c.UpdateTx tx id user_type body ↦ None
+  | c.DeleteTx tx id body ↦ None
+  | c.Prepare tx extra ↦ None
+  | c.Commit tx ↦ None
+  | c.Rollback tx ↦ None
+  | c.Flush ↦ None
+]
 
 -- the count of the command's transaction in the file may rise
 abbrev pub CountFits : TxState → Command → ℕ → Type 0

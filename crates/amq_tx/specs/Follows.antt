@@ -47,7 +47,19 @@ refusal_of base steps command = first_some (tx_refusal base steps command ∷ he
 
 -- the number that the journal of one thread gives to the command, if it is a Begin
 abbrev pub number_of_begin : List Placed → List Step → Command → Option ℕ
-number_of_begin base steps command = elim command [ c.Begin ↦ Some (highest base steps + 1) | _ ↦ None ]
+number_of_begin base steps command = elim command [
+  | c.Begin ↦ Some (highest base steps + 1)
+  | c.Add id user_type body ↦ None
+  | c.Update id user_type body ↦ None
+  | c.Delete id ↦ None
+  | c.AddTx tx id user_type body ↦ None
+  | c.UpdateTx tx id user_type body ↦ None
+  | c.DeleteTx tx id body ↦ None
+  | c.Prepare tx extra ↦ None
+  | c.Commit tx ↦ None
+  | c.Rollback tx ↦ None
+  | c.Flush ↦ None
+]
 
 -- what the step of an accepted command has in `placed`: its record in the file, with the number that makes it sound, or nothing where it has none
 abbrev pub IsPlacedIn : ℕ → List Placed → Command → Option Placed → Type 0

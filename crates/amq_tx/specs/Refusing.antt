@@ -58,7 +58,19 @@ id_refusal_in s command = elim (id_of command) [ None ↦ None | Some id ↦ liv
 
 -- `TxNumbersSpent`
 abbrev pub spent_in : TxState → Command → Option Refusal
-spent_in s command = elim command [ c.Begin ↦ (if nat_le (2 ^ 63 - 1) s.highest then Some (TxNumbersSpent s.highest) else None) | _ ↦ None ]
+spent_in s command = elim command [
+  | c.Begin ↦ (if nat_le (2 ^ 63 - 1) s.highest then Some (TxNumbersSpent s.highest) else None)
+  | c.Add id user_type body ↦ None
+  | c.Update id user_type body ↦ None
+  | c.Delete id ↦ None
+  | c.AddTx tx id user_type body ↦ None
+  | c.UpdateTx tx id user_type body ↦ None
+  | c.DeleteTx tx id body ↦ None
+  | c.Prepare tx extra ↦ None
+  | c.Commit tx ↦ None
+  | c.Rollback tx ↦ None
+  | c.Flush ↦ None
+]
 
 -- the first of `NoTx`, `TxPrepared`, `Held`, `AlreadyLive`, `NoRecord` and `TxNumbersSpent` that holds
 abbrev pub refusal_in : TxState → Command → Option Refusal
