@@ -68,6 +68,7 @@ holds_loads config wanted least base history steps s reading image legal told h 
       kept = kept;
       is = subst (λ (ps : List Placed). IsKept base ps least kept) told
           (left_is_kept base config steps durable written later rest kept h.last least legal (told ∙ split) h.one refl (subst (IsPart rest) others left.some) le);
+      uncontrolled = left.uncontrolled;
       loads = record {
         control = None;
         records = base ++ kept;

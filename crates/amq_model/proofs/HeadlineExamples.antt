@@ -18,6 +18,7 @@ use Rattle.amq_model.specs.Crash.{IsFoundIn, NoFalseRecord, MayLeave}
 use Rattle.amq_model.specs.Kept.{IsKept, IsPart, IsWhole, closing_tx}
 use Rattle.amq_model.specs.Leaves.{IsLeftNow, LeavesNothingNew, LeftSince}
 use Rattle.amq_model.specs.Headline.{LoadsKept, RecoversSince}
+use Rattle.amq_model.specs.Names.{control_name}
 use Rattle.amq_model.proofs.Literals.{are_bytes, unequal, read_at, at_least, none_behind}
 use Rattle.amq_model.proofs.Lookups.{same_other}
 use Rattle.amq_model.proofs.Alone.{IsHeader, alone, one_loads}
@@ -46,6 +47,9 @@ of_the_one bytes P files has control says = subst (λ (l : Listing). All P (data
 
 uncontrolled : (bytes : List ℕ) → SaysControl ((name, bytes) ∷ []) None
 uncontrolled bytes found c there = absurd cc
+
+unnamed : (bytes : List ℕ) → finite.get (one name bytes) control_name ≡ None
+unnamed bytes = has_one name bytes control_name
 
 -- it is the one file that the image has
 of_one : (bytes found : List ℕ) → finite.get (one name bytes) name ≡ Some found → found ≡ bytes
@@ -228,15 +232,19 @@ loads_alone bytes spots front short scan = subst (λ (l : Listing). Loads l 0 (r
 
 -- the first record is lost, the second one is left
 pub a_later_one_is_kept : LoadsKept [] history 0 0 (one name broken)
-a_later_one_is_kept = record { kept = kept_second; is = second_is_kept; loads = loads_alone broken (second ∷ []) refl (omega arith) behind_a_broken_record }
+a_later_one_is_kept = record { kept = kept_second; is = second_is_kept; uncontrolled = unnamed broken; loads = loads_alone broken (second ∷ []) refl (omega arith) behind_a_broken_record }
 
 -- nothing is left, of a history of which nothing was durable
 pub nothing_needs_to_be_kept : LoadsKept [] history 0 0 (one name (header 2 1))
-nothing_needs_to_be_kept = record { kept = []; is = nothing_is_kept 0 history (omega arith) refl; loads = loads_alone (header 2 1) [] refl (omega arith) (λ p low. none_behind (header 2 1) 1 p low) }
+nothing_needs_to_be_kept = record { kept = []; is = nothing_is_kept 0 history (omega arith) refl; uncontrolled = unnamed (header 2 1); loads = loads_alone (header 2 1) [] refl (omega arith) (λ p low. none_behind (header 2 1) 1 p low) }
 
 -- a receipt doesn't count more than there is
 pub more_than_there_is : LoadsKept [] [] 5 0 (one name (header 2 1)) → ⊥
 more_than_there_is l = absurd (omega (arith, l.is.counted))
+
+-- a directory with a control file isn't one that loads so
+pub a_control_file_is_not_kept : (bytes : List ℕ) (base all : List Placed) (durable : ℕ) → LoadsKept base all durable 0 (one control_name bytes) → ⊥
+a_control_file_is_not_kept bytes base all durable h = let e : Some bytes ≡ None = sym (has_one control_name bytes control_name) ∙ h.uncontrolled in absurd cc
 
 -- a file with another version has a fault
 pub a_fault_is_not_kept : (base all : List Placed) (durable : ℕ) → LoadsKept base all durable 0 (one name (header 3 1)) → ⊥
@@ -353,21 +361,21 @@ no_record_is_false reading = of_the_one (header 2 1) (λ f. (spots : List Spot) 
   found [] scan i d low = absurd (omega (arith, low))
   found (s ∷ ss) scan i d low = absurd (none_behind (header 2 1) 1 s.place scan.0 s refl scan.2)
 
--- what a crash leaves of it is that file
-left_alone : (image : Image) → IsImage begun.start image → finite.entries image ≡ (name, header 2 1) ∷ []
-left_alone image left = by (finite.get image name) refl (at_name begun.start image name (Some (file (header 2 1) [])) (finite.get image name) (has_one name _ name) refl left) where
+-- what a crash leaves of it has no other file
+left_alone_others : (image : Image) → IsImage begun.start image → (q : FileName) → finite.get begun.start q ≡ None → finite.get image q ≡ None
+left_alone_others image left q none = absent (finite.get image q) (at_name begun.start image q None (finite.get image q) none refl left) where
   absent : (found : Option (List ℕ)) → IsFileImage None found → found ≡ None
   absent None is = refl
   absent (Some bytes) is = absurd is
 
-  others : (q : FileName) → (q ≡ name → ⊥) → finite.get image q ≡ None
-  others q ne = absent (finite.get image q) (at_name begun.start image q None (finite.get image q) (has_one name _ q ∙ ap (λ b. cond b (Some (file (header 2 1) [])) None) (same_other q name ne)) refl left)
-
+-- it is that file
+left_alone : (image : Image) → IsImage begun.start image → finite.entries image ≡ (name, header 2 1) ∷ []
+left_alone image left = by (finite.get image name) refl (at_name begun.start image name (Some (file (header 2 1) [])) (finite.get image name) (has_one name _ name) refl left) where
   by : (found : Option (List ℕ)) → finite.get image name ≡ found → IsFileImage (Some (file (header 2 1) [])) found → finite.entries image ≡ (name, header 2 1) ∷ []
   by None there is = absurd is
   by (Some bytes) there torn =
       let same : bytes ≡ header 2 1 = ext_get_or 0 bytes (header 2 1) torn.len (λ i low. torn.same i (omega (arith, low, torn.len)) (λ p. p)) in
-      alone name (header 2 1) image (there ∙ ap (λ b. Some b) same) others
+      alone name (header 2 1) image (there ∙ ap (λ b. Some b) same) (λ q ne. left_alone_others image left q (has_one name _ q ∙ ap (λ b. cond b (Some (file (header 2 1) [])) None) (same_other q name ne)))
 
 -- It recovers as long as no record is durable,
 pub recovers : RecoversSince (Some begun) 0 0 [] (take 1 history) 0
@@ -376,6 +384,7 @@ recovers = record { earlier = omega arith; each = each } where
   each reading image (s, since, read, left) none_false = record {
     kept = [];
     is = nothing_is_kept 0 (take 1 history) (omega arith) refl;
+    uncontrolled = left_alone_others image (subst (λ (s : Files). IsImage s image) since.1 left) control_name (has_one name _ control_name);
     loads = subst (λ (l : Listing). Loads l 0 (result_of [])) (sym (left_alone image (subst (λ (s : Files). IsImage s image) since.1 left))) (one_loads name (header 2 1) (header 2 1) 1 0 [] refl refl is_header refl (omega arith) (λ p low. none_behind (header 2 1) 1 p low));
   }
 

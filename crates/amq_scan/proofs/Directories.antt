@@ -382,6 +382,7 @@ directory_left wanted sure gs s reading image reads is none_false d =
     let r = image_joined wanted s reading image reads is sure gs d.there (λ f has. all_has P files each f has) in
     record {
       sound = none_faulty wanted image gs h;
+      uncontrolled = h.uncontrolled;
       says = says;
       rest = r.0;
       some = r.1;

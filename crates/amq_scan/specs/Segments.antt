@@ -89,6 +89,7 @@ pub record IsClosedDirectory (wanted : ℕ) (gs : List Segment) (s : Files) : Ty
 -- What is left of such a directory: no fault, no control file, and the sure records with a part of the others.
 pub record IsLeftOf (wanted sure : ℕ) (gs : List Segment) (image : Image) : Type 0 where
   pub sound : fault (finite.entries image) None wanted ≡ None
+  pub uncontrolled : finite.get image control_name ≡ None
   pub says : SaysControl (finite.entries image) None
   pub rest : List Placed
   pub some : IsPart rest (drop sure (records_of gs))
