@@ -174,6 +174,7 @@ first_is_found = scan_by_reading _ 1 (hi_at 16 ∷ []) refl refl refl
 pub the_durable_one_is_left : IsLeftOf 0 1 two_in_one (one name torn)
 the_durable_one_is_left = record {
   sound = subst (λ (l : Listing). fault l None 0 ≡ None) (sym (entries_of torn)) refl;
+  uncontrolled = has_one name torn control_name;
   says = subst (λ (l : Listing). SaysControl l None) (sym (entries_of torn)) (λ bytes c e. absurd cc);
   rest = [];
   some = tt;
@@ -183,6 +184,7 @@ the_durable_one_is_left = record {
 pub both_are_left : IsLeftOf 0 1 two_in_one (one name both)
 both_are_left = record {
   sound = subst (λ (l : Listing). fault l None 0 ≡ None) (sym (entries_of both)) refl;
+  uncontrolled = has_one name both control_name;
   says = subst (λ (l : Listing). SaysControl l None) (sym (entries_of both)) (λ bytes c e. absurd cc);
   rest = placed 1 (yo_at 41) ∷ [];
   some = inl (refl, tt);
