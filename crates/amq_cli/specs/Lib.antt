@@ -12,3 +12,4 @@ pub mod Script
 pub mod Offline
 pub mod Owed
 pub mod Report
+pub mod Outcome

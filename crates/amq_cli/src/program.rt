@@ -1,17 +1,9 @@
 //! The commands of the program, over any disk, source and sink.
-ghost use Rattle.std.specs.Prelude.{◌≡◌, ◌⊎◌, ◌↔◌, ◌≤◌, ◌∷◌, [], length, IfOk, IfErr, true, false, None, Some, All, IsTrue};
-ghost use Rattle.amq_model.specs.Answers.{history_of};
+ghost use Rattle.std.specs.Prelude.{◌≡◌, ◌∷◌, [], IfOk, IfErr, All, IsTrue};
 ghost use Rattle.amq_model.specs.Configs.{IsConfig};
-ghost use Rattle.amq_model.specs.Leaves.{Told, LeavesNothingNew};
-ghost use Rattle.amq_io.specs.Cause.{Rose};
-ghost use Rattle.amq_engine.specs.Engine.{IsBlank, AreSpentAtLast};
-ghost use Rattle.amq_engine.specs.Opening.{HasBase};
-ghost use Rattle.amq_engine.specs.Receipts.{IsCrashSafe, IsLastCount, BeginsBySyncs};
-ghost use Rattle.amq_cli.specs.Counts.{HasSourceCount, HasSinkCount, HasDiskCount, HasPrintCounts};
-ghost use Rattle.amq_cli.specs.Words.{asked, prints, reads_script};
-ghost use Rattle.amq_cli.specs.Offline.{lists_of, HasCause, HasLegal, HasRolledBack, AreInNewFiles, HasPlayCause, IsRun, IsPlayed, IsTextOf, IsOutput, IsPrint, IsScript, IsLoadedState, is_before_opening, is_past_script, is_unwritten, defaults, IsWritten};
-ghost use Rattle.amq_cli.specs.Owed.{HasOwed, IsOwedRun};
-ghost use Rattle.amq_cli.specs.Output.{IsPartWritten};
+ghost use Rattle.amq_cli.specs.Words.{asked};
+ghost use Rattle.amq_cli.specs.Offline.{defaults};
+ghost use Rattle.amq_cli.specs.Outcome.{Outcome, Played, seen_disk, seen_stream};
 ghost use Rattle.amq_cli.specs.Replay.{is_built};
 
 use crate::output::write;
@@ -45,38 +37,13 @@ pub fn offline<D: Disk, S: Source, K: Sink>(
     source: &mut S,
     sink: &mut K,
 ) -> (Status, D, Kept)
-    ensures words { (result.0 ≡ Status.NotBuilt Unbuilt.Words) ↔ (asked words.now ≡ None) }
-    ensures run { prints (asked words.now) ≡ false → result.0 ≡ Status.Ok → IsRun IsWritten (asked words.now) defaults (S.left source.old) (S.left source.new) (D.past disk) (D.past result.1) (K.taken sink.old) (K.taken sink.new) result.2.base result.2.steps.items result.2.receipts.items }
-    ensures run_unwritten { prints (asked words.now) ≡ false → result.0 ≡ Status.SinkFault → IsRun IsPartWritten (asked words.now) defaults (S.left source.old) (S.left source.new) (D.past disk) (D.past result.1) (K.taken sink.old) (K.taken sink.new) result.2.base result.2.steps.items result.2.receipts.items }
-    ensures output { prints (asked words.now) ≡ false → IsOutput (asked words.now) defaults.buffer_timeout result.0 (IsLoadedState (D.past result.1) defaults.user_version result.2.base result.2.steps.items) (S.left source.old) (S.left source.new) (D.faults disk) (D.faults result.1) (K.faults sink.old) (K.faults sink.new) (K.taken sink.old) (K.taken sink.new) result.2.steps.items result.2.receipts.items }
-    ensures print { asked words.now ≡ Some Task.Print → IsPrint result.0 defaults.user_version (D.past disk) (D.past result.1) (K.taken sink.old) (K.taken sink.new) result.2.steps.items result.2.receipts.items }
-    ensures cause { HasCause defaults (lists_of result.2) result.0 (S.left source.old) (D.past disk) (D.past result.1) (S.faults source.old) (S.faults source.new) (K.faults sink.old) (K.faults sink.new) (D.faults disk) (D.faults result.1) }
-    ensures script { prints (asked words.now) ≡ false → is_past_script result.0 ≡ true → IsScript (asked words.now) (S.left source.old) (S.left source.new) }
-    ensures unread { reads_script (asked words.now) ≡ false → source.new ≡ source.old }
-    ensures unopened { is_before_opening result.0 ≡ true → (result.1 ≡ disk) × (result.2.steps.items ≡ []) × (result.2.receipts.items ≡ []) }
-    ensures unwritten { is_unwritten result.0 ≡ true → sink.new ≡ sink.old }
-    ensures silent { prints (asked words.now) ≡ false → result.2.receipts.items ≡ [] → K.taken sink.new ≡ K.taken sink.old }
-    ensures unprinted { asked words.now ≡ Some Task.Print → result.0 ≡ Status.DiskFault → sink.new ≡ sink.old }
-    ensures legal { HasLegal result.0 defaults result.2.base result.2.steps.items (K.taken sink.new ≡ K.taken sink.old) }
-    ensures source_count { HasSourceCount result.0 (S.faults source.old) (S.faults source.new) }
-    ensures sink_count { HasSinkCount result.0 (K.faults sink.old) (K.faults sink.new) }
-    ensures disk_count { HasDiskCount result.0 (D.faults disk) (D.faults result.1) }
-    ensures print_counts { asked words.now ≡ Some Task.Print → HasPrintCounts result.0 (K.faults sink.old) (K.faults sink.new) (D.faults disk) (D.faults result.1) }
-    ensures later { (D.faults disk).0 ≤ (D.faults result.1).0 }
-
-    // The headline, and what the receipts are.
-    ensures crash_safe { IsCrashSafe (D.past result.1) (D.moment result.1) defaults.user_version (lists_of result.2) }
-    ensures durable { prints (asked words.now) ≡ false → (result.0 ≡ Status.Ok) ⊎ (result.0 ≡ Status.SinkFault) → IsLastCount (length (history_of result.2.steps.items)) result.2.receipts.items }
-    ensures opened { (result.2.receipts.items ≡ []) ⊎ Told (D.past disk) (HasBase defaults.user_version result.2.base) }
-    ensures blank { result.2.receipts.items ≡ [] → IsBlank (lists_of result.2) }
-    ensures spent { AreSpentAtLast [] result.2.steps.items }
-    ensures stands { AreInNewFiles defaults (D.past disk) result.2.steps.items result.2.receipts.items }
-    ensures rolled { HasRolledBack result.0 result.2.base result.2.steps.items }
-    ensures nothing_new { result.2.receipts.items ≡ [] → LeavesNothingNew (D.past disk) (D.past result.1) }
-    ensures begins { BeginsBySyncs result.2.receipts.items (D.past disk) (D.past result.1) }
-
-    // When what was durable: to what each receipt is owed.
-    ensures owed { prints (asked words.now) ≡ false → IsOwedRun (asked words.now) defaults result.0 (S.left source.old) (S.left source.new) result.2.steps.items result.2.receipts.items }
+    ensures outcome { Outcome (asked words.now) defaults result.0 result.2
+        (seen_disk D.past D.moment D.faults disk)
+        (seen_disk D.past D.moment D.faults result.1)
+        (seen_stream S.left S.faults source.old)
+        (seen_stream S.left S.faults source.new)
+        (seen_stream K.taken K.faults sink.old)
+        (seen_stream K.taken K.faults sink.new) }
 {
     offline_with(alloc, DEFAULTS, words, disk, source, sink)
 }
@@ -100,38 +67,13 @@ pub fn offline_with<D: Disk, S: Source, K: Sink>(
     sink: &mut K,
 ) -> (Status, D, Kept)
     requires config { IsConfig config }
-    ensures words { (result.0 ≡ Status.NotBuilt Unbuilt.Words) ↔ (asked words.now ≡ None) }
-    ensures run { prints (asked words.now) ≡ false → result.0 ≡ Status.Ok → IsRun IsWritten (asked words.now) config (S.left source.old) (S.left source.new) (D.past disk) (D.past result.1) (K.taken sink.old) (K.taken sink.new) result.2.base result.2.steps.items result.2.receipts.items }
-    ensures run_unwritten { prints (asked words.now) ≡ false → result.0 ≡ Status.SinkFault → IsRun IsPartWritten (asked words.now) config (S.left source.old) (S.left source.new) (D.past disk) (D.past result.1) (K.taken sink.old) (K.taken sink.new) result.2.base result.2.steps.items result.2.receipts.items }
-    ensures output { prints (asked words.now) ≡ false → IsOutput (asked words.now) config.buffer_timeout result.0 (IsLoadedState (D.past result.1) config.user_version result.2.base result.2.steps.items) (S.left source.old) (S.left source.new) (D.faults disk) (D.faults result.1) (K.faults sink.old) (K.faults sink.new) (K.taken sink.old) (K.taken sink.new) result.2.steps.items result.2.receipts.items }
-    ensures print { asked words.now ≡ Some Task.Print → IsPrint result.0 config.user_version (D.past disk) (D.past result.1) (K.taken sink.old) (K.taken sink.new) result.2.steps.items result.2.receipts.items }
-    ensures cause { HasCause config (lists_of result.2) result.0 (S.left source.old) (D.past disk) (D.past result.1) (S.faults source.old) (S.faults source.new) (K.faults sink.old) (K.faults sink.new) (D.faults disk) (D.faults result.1) }
-    ensures script { prints (asked words.now) ≡ false → is_past_script result.0 ≡ true → IsScript (asked words.now) (S.left source.old) (S.left source.new) }
-    ensures unread { reads_script (asked words.now) ≡ false → source.new ≡ source.old }
-    ensures unopened { is_before_opening result.0 ≡ true → (result.1 ≡ disk) × (result.2.steps.items ≡ []) × (result.2.receipts.items ≡ []) }
-    ensures unwritten { is_unwritten result.0 ≡ true → sink.new ≡ sink.old }
-    ensures silent { prints (asked words.now) ≡ false → result.2.receipts.items ≡ [] → K.taken sink.new ≡ K.taken sink.old }
-    ensures unprinted { asked words.now ≡ Some Task.Print → result.0 ≡ Status.DiskFault → sink.new ≡ sink.old }
-    ensures legal { HasLegal result.0 config result.2.base result.2.steps.items (K.taken sink.new ≡ K.taken sink.old) }
-    ensures source_count { HasSourceCount result.0 (S.faults source.old) (S.faults source.new) }
-    ensures sink_count { HasSinkCount result.0 (K.faults sink.old) (K.faults sink.new) }
-    ensures disk_count { HasDiskCount result.0 (D.faults disk) (D.faults result.1) }
-    ensures print_counts { asked words.now ≡ Some Task.Print → HasPrintCounts result.0 (K.faults sink.old) (K.faults sink.new) (D.faults disk) (D.faults result.1) }
-    ensures later { (D.faults disk).0 ≤ (D.faults result.1).0 }
-
-    // The headline, and what the receipts are.
-    ensures crash_safe { IsCrashSafe (D.past result.1) (D.moment result.1) config.user_version (lists_of result.2) }
-    ensures durable { prints (asked words.now) ≡ false → (result.0 ≡ Status.Ok) ⊎ (result.0 ≡ Status.SinkFault) → IsLastCount (length (history_of result.2.steps.items)) result.2.receipts.items }
-    ensures opened { (result.2.receipts.items ≡ []) ⊎ Told (D.past disk) (HasBase config.user_version result.2.base) }
-    ensures blank { result.2.receipts.items ≡ [] → IsBlank (lists_of result.2) }
-    ensures spent { AreSpentAtLast [] result.2.steps.items }
-    ensures stands { AreInNewFiles config (D.past disk) result.2.steps.items result.2.receipts.items }
-    ensures rolled { HasRolledBack result.0 result.2.base result.2.steps.items }
-    ensures nothing_new { result.2.receipts.items ≡ [] → LeavesNothingNew (D.past disk) (D.past result.1) }
-    ensures begins { BeginsBySyncs result.2.receipts.items (D.past disk) (D.past result.1) }
-
-    // When what was durable: to what each receipt is owed.
-    ensures owed { prints (asked words.now) ≡ false → IsOwedRun (asked words.now) config result.0 (S.left source.old) (S.left source.new) result.2.steps.items result.2.receipts.items }
+    ensures outcome { Outcome (asked words.now) config result.0 result.2
+        (seen_disk D.past D.moment D.faults disk)
+        (seen_disk D.past D.moment D.faults result.1)
+        (seen_stream S.left S.faults source.old)
+        (seen_stream S.left S.faults source.new)
+        (seen_stream K.taken K.faults sink.old)
+        (seen_stream K.taken K.faults sink.new) }
 {
     let lines = match task_of(words) {
         Some(Task::Replay) => read_script(alloc, source),
@@ -172,26 +114,11 @@ fn play<D: Disk, K: Sink>(
 ) -> (Status, D, Kept)
     requires config { IsConfig config }
     requires built { All (λ line. IsTrue (is_built line)) lines.items }
-    ensures run { result.0 ≡ Status.Ok → IsPlayed IsWritten config lines.items (D.past disk) (D.past result.1) (K.taken sink.old) (K.taken sink.new) result.2.base result.2.steps.items result.2.receipts.items }
-    ensures run_unwritten { result.0 ≡ Status.SinkFault → IsPlayed IsPartWritten config lines.items (D.past disk) (D.past result.1) (K.taken sink.old) (K.taken sink.new) result.2.base result.2.steps.items result.2.receipts.items }
-    ensures output { IsTextOf config.buffer_timeout result.0 (IsLoadedState (D.past result.1) config.user_version result.2.base result.2.steps.items) lines.items (D.faults disk) (D.faults result.1) (K.faults sink.old) (K.faults sink.new) (K.taken sink.old) (K.taken sink.new) result.2.steps.items result.2.receipts.items }
-    ensures cause { HasPlayCause config (lists_of result.2) result.0 (D.past disk) (D.past result.1) (K.faults sink.old) (K.faults sink.new) (D.faults disk) (D.faults result.1) }
-    ensures unwritten { is_unwritten result.0 ≡ true → sink.new ≡ sink.old }
-    ensures silent { result.2.receipts.items ≡ [] → K.taken sink.new ≡ K.taken sink.old }
-    ensures legal { HasLegal result.0 config result.2.base result.2.steps.items (K.taken sink.new ≡ K.taken sink.old) }
-    ensures sink_count { HasSinkCount result.0 (K.faults sink.old) (K.faults sink.new) }
-    ensures disk_count { HasDiskCount result.0 (D.faults disk) (D.faults result.1) }
-    ensures later { (D.faults disk).0 ≤ (D.faults result.1).0 }
-    ensures crash_safe { IsCrashSafe (D.past result.1) (D.moment result.1) config.user_version (lists_of result.2) }
-    ensures durable { (result.0 ≡ Status.Ok) ⊎ (result.0 ≡ Status.SinkFault) → IsLastCount (length (history_of result.2.steps.items)) result.2.receipts.items }
-    ensures opened { (result.2.receipts.items ≡ []) ⊎ Told (D.past disk) (HasBase config.user_version result.2.base) }
-    ensures blank { result.2.receipts.items ≡ [] → IsBlank (lists_of result.2) }
-    ensures spent { AreSpentAtLast [] result.2.steps.items }
-    ensures stands { AreInNewFiles config (D.past disk) result.2.steps.items result.2.receipts.items }
-    ensures rolled { HasRolledBack result.0 result.2.base result.2.steps.items }
-    ensures nothing_new { result.2.receipts.items ≡ [] → LeavesNothingNew (D.past disk) (D.past result.1) }
-    ensures begins { BeginsBySyncs result.2.receipts.items (D.past disk) (D.past result.1) }
-    ensures owed { HasOwed config lines.items result.2.steps.items result.2.receipts.items }
+    ensures played { Played config lines.items result.0 result.2
+        (seen_disk D.past D.moment D.faults disk)
+        (seen_disk D.past D.moment D.faults result.1)
+        (seen_stream K.taken K.faults sink.old)
+        (seen_stream K.taken K.faults sink.new) }
 {
     let mut text = Vec::new(alloc);
     let (outcome, disk, kept) = run(alloc, config, lines, disk, &mut text);

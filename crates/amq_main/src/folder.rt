@@ -57,8 +57,12 @@ impl<R: Files<File = File> + AllocGlobal + Clone + Drop> Folder<R> {
         })
     }
 
-    /// The files, ascending by the bytes of their names.
-    pub fn list(&self) -> Result<Vec<FileInfo>, DiskError> {
+    /// The files, ascending by the bytes of their names. The first call makes the names durable that it
+    /// finds: whoever made the files may not have.
+    pub fn list(&mut self) -> Result<Vec<FileInfo>, DiskError> {
+        if self.handle.is_none() {
+            self.sync_old_names().map_err(not_read)?;
+        }
         let mut infos = Vec::new(self.runtime.alloc());
         for entry in fs::read_dir(&self.runtime, self.path.as_str()).map_err(not_read)? {
             if let Some(info) = self.info_of(entry)? {
@@ -130,14 +134,9 @@ impl<R: Files<File = File> + AllocGlobal + Clone + Drop> Folder<R> {
         self.open(name)?.write_all_at(bytes, place).map_err(failed)
     }
 
-    /// Makes the bytes of the file durable. The first call makes the names in the folder durable too:
-    /// whoever made its files may not have.
+    /// Makes the bytes of the file durable.
     pub fn sync(&mut self, name: &str) -> Result<(), DiskError> {
-        self.open(name)?.sync_data().map_err(failed)?;
-        if self.handle.is_none() {
-            self.sync_names().map_err(failed)?;
-        }
-        Ok(())
+        self.open(name)?.sync_data().map_err(failed)
     }
 
     /// Renames the file, and makes that durable.
@@ -185,6 +184,15 @@ impl<R: Files<File = File> + AllocGlobal + Clone + Drop> Folder<R> {
     /// Closes the file in use where it has this name.
     fn close(&mut self, name: &str) {
         let _ = self.in_use.take_if(|open| open.is_named(name));
+    }
+
+    /// Makes the names durable that were there before this run. A folder of a kind that can't be synced
+    /// is listed all the same: its first change fails.
+    fn sync_old_names(&mut self) -> io::Result<()> {
+        match self.sync_names() {
+            Err(error) if error.kind() == ErrorKind::InvalidInput => Ok(()),
+            answer => answer,
+        }
     }
 
     /// Makes the names of the files durable.
