@@ -34,3 +34,18 @@ take_front long a b c e h =
 pub on_err : {T E : Type 0} (r : Result T E) {P : Type 0} → P → OnErr r P
 on_err (Ok x) p = tt
 on_err (Err e) p = p
+
+-- the first words joined are no longer than all
+join_grows : {X : Type 0} (f : X → List ℕ) (xs : List X) (i : ℕ) → length (join_with_byte 32 (map f (take i xs))) ≤ length (join_with_byte 32 (map f xs))
+join_grows f xs zero = omega arith
+join_grows f [] (suc i) = omega arith
+join_grows f (x ∷ []) (suc zero) = omega arith
+join_grows f (x ∷ []) (suc (suc i)) = omega arith
+join_grows f (x ∷ y ∷ ys) (suc zero) = omega (arith, length-append (f x) (32 ∷ join_with_byte 32 (map f (y ∷ ys))))
+join_grows f (x ∷ y ∷ ys) (suc (suc i)) =
+    let rest = join_grows f (y ∷ ys) (suc i) in
+    omega (arith, rest, length-append (f x) (32 ∷ join_with_byte 32 (map f (y ∷ ys))), length-append (f x) (32 ∷ join_with_byte 32 (map f (y ∷ take i ys))))
+
+-- a text that had no room for one word more had none for all
+pub no_room : {X : Type 0} (f : X → List ℕ) (xs : List X) (i room : ℕ) (a b c : List ℕ) → b ++ c ≡ a ++ join_with_byte 32 (map f (take (i + 1) xs)) → room < length b + length c → room < length a + length (join_with_byte 32 (map f xs))
+no_room f xs i room a b c e less = omega (arith, less, length-append b c, ap length e, length-append a (join_with_byte 32 (map f (take (i + 1) xs))), join_grows f xs (i + 1))

@@ -2,3 +2,4 @@ pub mod Files
 pub mod HexDigits
 pub mod Joins
 pub mod Rows
+pub mod Longest

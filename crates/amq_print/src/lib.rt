@@ -10,7 +10,7 @@ mod reports;
 mod words;
 
 pub use records::record_lines;
-pub use replies::{push_answer, push_bound};
+pub use replies::{LONGEST_LINE, push_answer, push_bound};
 pub use reports::{push_entry, push_in_doubt, push_in_doubt_count, push_live_count, report};
 
 #[cfg(test)]

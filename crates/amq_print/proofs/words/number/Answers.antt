@@ -1,0 +1,6 @@
+use Rattle.std.proofs.Common.{arith}
+use Rattle.std.proofs.lemmas.Fmt.{length-decimal-le}
+use Rattle.amq_print.proofs.words.number.Goals as goal
+
+pub returns-clause-short : goal.returns-clause-short
+returns-clause-short c = length-decimal-le 20 c.args.number (omega arith) (omega (arith, c.ranges.number.fits)) (omega (arith, c.ranges.number.fits))
