@@ -83,13 +83,16 @@ pub table_accepts : (config : Config) (by_table by_numbers : Option Refusal) (co
 table_accepts config by_table by_numbers command none = middle_none (too_large config command) by_table by_numbers none
 
 -- numbers are left, where a file is needed
-pub numbers_left : (config : Config) (by_table : Option Refusal) (moves_first : Bool) (highest : ℕ) (ids : List ℕ) (command : Command) → refused config by_table (spent moves_first highest ids) command ≡ None → moves_first ≡ true → ids ≡ [] → highest < 2 ^ 31 - 1
-numbers_left config by_table moves_first highest ids command none moves bare = by moves_first ids (leb (2 ^ 31 - 1) highest) refl moves bare (last_none (too_large config command) by_table (spent moves_first highest ids) none) where
+pub spent_left : (moves_first : Bool) (highest : ℕ) (ids : List ℕ) → spent moves_first highest ids ≡ None → moves_first ≡ true → ids ≡ [] → highest < 2 ^ 31 - 1
+spent_left moves_first highest ids free moves bare = by moves_first ids (leb (2 ^ 31 - 1) highest) refl moves bare free where
   by : (m : Bool) (l : List ℕ) (b : Bool) → leb (2 ^ 31 - 1) highest ≡ b → m ≡ true → l ≡ [] → spent m highest l ≡ None → highest < 2 ^ 31 - 1
   by false l b is moves bare free = absurd cc
   by true (x ∷ xs) b is moves bare free = absurd cc
   by true [] true is moves bare free = absurd (let e : Some (FileIdsSpent highest) ≡ None = sym (ap (λ (k : Bool). cond k (Some (FileIdsSpent highest)) None) is) ∙ free in cc)
   by true [] false is moves bare free = grind (arith, is)
+
+pub numbers_left : (config : Config) (by_table : Option Refusal) (moves_first : Bool) (highest : ℕ) (ids : List ℕ) (command : Command) → refused config by_table (spent moves_first highest ids) command ≡ None → moves_first ≡ true → ids ≡ [] → highest < 2 ^ 31 - 1
+numbers_left config by_table moves_first highest ids command none moves bare = spent_left moves_first highest ids (last_none (too_large config command) by_table (spent moves_first highest ids) none) moves bare
 
 room_by : (b : Bool) (r : Refusal) → cond b (Some r) None ≡ None → b ≡ false
 room_by true r is = absurd cc

@@ -16,7 +16,7 @@ use Rattle.amq_scan.proofs.Parts.{Has}
 use Rattle.amq_scan.proofs.Entries.{Entry, HaveOwnNames, own_names, entry_there, there_entry, IsDataFile, has_file, file_has}
 use Rattle.amq_engine.specs.Opening.{HasNumbers}
 use Rattle.amq_model.specs.Calls.{Past}
-use Rattle.amq_model.specs.Leaves.{Leaves, Told}
+use Rattle.amq_model.specs.Leaves.{Told}
 use Rattle.amq_engine.proofs.FilesTold.{told_for}
 use Rattle.amq_engine.specs.DataFiles.{Works, id_and_length, data_file_at, HasCount, HasFilesMade, IsNumbered}
 
@@ -167,7 +167,7 @@ from_le : (a : ℕ) (ns : List ℕ) → a ≤ fold max a ns
 from_le a [] = omega arith
 from_le a (n ∷ ns) = omega (arith, from_le (max a n) ns)
 
-has_le : (a : ℕ) (ns : List ℕ) (k : ℕ) → Has ns k → k ≤ fold max a ns
+pub has_le : (a : ℕ) (ns : List ℕ) (k : ℕ) → Has ns k → k ≤ fold max a ns
 has_le a [] k h = absurd h
 has_le a (n ∷ ns) k (inl e) = omega (arith, e, from_le (max a n) ns)
 has_le a (n ∷ ns) k (inr h) = has_le (max a n) ns k h

@@ -1,6 +1,6 @@
 -- Which data files calls leave, and which files they leave alone.
 use Rattle.std.proofs.Common.{◌≡◌, ◌⊎◌, inl, inr, ⊎_elim, ℕ, zero, suc, ◌+◌, ◌-◌, ◌^◌, ◌<◌, ◌≤◌, Bool, true, false, cond, leb, List, [], ◌∷◌, ◌++◌, length, take, drop, Option, None, Some, IsSome, refl, sym, ap, subst, ◌∙◌, arith}
-use Rattle.std.specs.Prelude.{IsTrue, IfSome, is_some, Result, Ok, Err, OnOk, OnErr}
+use Rattle.std.specs.Prelude.{IsTrue, IfSome, is_some, Result, Ok, Err, OnOk, OnErr, ◌&&◌}
 use Rattle.std.specs.Int.{w64, from_be_bytes}
 use Rattle.std.specs.FinMap as finite
 use Rattle.std.proofs.lemmas.Bool.{cases_lt}
@@ -21,7 +21,7 @@ use Rattle.amq_header.proofs.Made.{data_is_read, data_differ}
 use Rattle.amq_pool.specs.Pools.{PoolOf, file_for, Making, Made}
 use Rattle.amq_pool.proofs.Contents.{file_long, has_header}
 use Rattle.amq_engine.specs.Puts.{Puts}
-use Rattle.amq_engine.specs.DataFiles.{id_and_length, data_file_at, HasSameFiles, IsNumbered, HasFilesMade, IsPreparing, IsUsedOrNew, Works, Worked, WorkedTo}
+use Rattle.amq_engine.specs.DataFiles.{id_and_length, data_file_at, HasSameFiles, HasFilesMade, IsPreparing, IsUsedOrNew, Works, Worked, WorkedTo}
 use Rattle.amq_engine.specs.Engine.{is_nil, with_files}
 use Rattle.amq_engine.proofs.Putting.{length-overlaid}
 use Rattle.amq_engine.proofs.Segments.{head_for}
@@ -147,7 +147,7 @@ pub told_two : (I E : Files → Files → Type 0) (R Q : Files → Files → Typ
 told_two I E R Q None b P was step went = tt
 told_two I E R Q (Some p) b P was step went = subst (λ (h : Option Past). Told h (Q (content p.start p.calls))) (sym went.1) (step _ _ was went.2.told)
 
-told_chain : (I E J F : Files → Files → Type 0) (R S T : Files → Files → Type 0) (a b c : Option Past) → ((o m s : Files) → R o m → S m s → T o s) → Leaves I E a b → Leaves J F b c → Told a (λ o. Told b (R o)) → Told b (λ m. Told c (S m)) → Told a (λ o. Told c (T o))
+pub told_chain : (I E J F : Files → Files → Type 0) (R S T : Files → Files → Type 0) (a b c : Option Past) → ((o m s : Files) → R o m → S m s → T o s) → Leaves I E a b → Leaves J F b c → Told a (λ o. Told b (R o)) → Told b (λ m. Told c (S m)) → Told a (λ o. Told c (T o))
 told_chain I E J F R S T None b c both one two r s = tt
 told_chain I E J F R S T (Some p) b c both one two r s = at_b one.0 one.1 two r s where
   at_c : (q : Past) (d : Past) → c ≡ Some d → R (content p.start p.calls) (content q.start q.calls) → Told c (S (content q.start q.calls)) → Told c (T (content p.start p.calls))
@@ -279,10 +279,10 @@ unworked J K size a most x y wider le near w = record { last = a; least = omega 
 pub worked_works : (K : Files → Files → Type 0) (size a b : ℕ) (x y : Option Past) → Worked true K size a b x y → Works K size a b x y
 worked_works K size a b x y w = subst (λ (n : ℕ). Works K size a n x y) (w.all refl) w.works
 
-pub worked_wider : (done : Bool) (J K : Files → Files → Type 0) (size a b : ℕ) (x y : Option Past) → ((o s : Files) → J o s → K o s) → Worked done J size a b x y → Worked done K size a b x y
+unfoldable pub worked_wider : (done : Bool) (J K : Files → Files → Type 0) (size a b : ℕ) (x y : Option Past) → ((o s : Files) → J o s → K o s) → Worked done J size a b x y → Worked done K size a b x y
 worked_wider done J K size a b x y wider w = record { last = w.last; least = w.least; within = w.within; near = w.near; all = w.all; works = works_wider J K size a w.last x y wider w.works }
 
-pub worked_then : (done : Bool) (J K L : Files → Files → Type 0) (size a b c : ℕ) (x y z : Option Past) → ((o s : Files) → J o s → L o s) → ((o m s : Files) → J o m → K m s → L o s) → c < 2 ^ 63 → a ≤ b → Works J size a b x y → Worked done K size b c y z → Worked done L size a c x z
+unfoldable pub worked_then : (done : Bool) (J K L : Files → Files → Type 0) (size a b c : ℕ) (x y z : Option Past) → ((o s : Files) → J o s → L o s) → ((o m s : Files) → J o m → K m s → L o s) → c < 2 ^ 63 → a ≤ b → Works J size a b x y → Worked done K size b c y z → Worked done L size a c x z
 worked_then done J K L size a b c x y z first both low ab one two = record {
   last = two.last;
   least = omega (arith, ab, two.least);
@@ -335,25 +335,39 @@ with_files_config (suc n) p = with_files_config n p
 
 pub to_still : (done : Bool) (size from first : ℕ) (a : Option Past) → first ≤ 2 ^ 31 - 1 → WorkedTo done size from first first a a
 to_still done size from first a low =
-    (first, low, λ is. refl, works_worked done (SparesAllBut (IsPreparing from first)) (SparesAllBut (IsPreparing from first)) size first first a a (λ o s same. same) (omega arith) (works_still (SparesAllBut (IsPreparing from first)) size first a (λ s n out. refl)))
+    let K : Files → Files → Type 0 = SparesAllBut (IsPreparing from first) in
+    let w = works_worked done K K size first first a a (λ o s same. same) (omega arith) (works_still K size first a (λ s n out. refl)) in
+    record { most = first; limit = low; all = λ is. refl; next = omega arith; worked = w; least = w.least }
 
-pub to_then : (done : Bool) (size from first mid further most reached : ℕ) (x y z : Option Past) → from ≤ further → mid ≤ most → most ≤ 2 ^ 31 - 1 → (done ≡ true → most ≡ reached) → WorkedTo true size from first mid x y → Worked done (SparesAllBut (IsPreparing further most)) size mid most y z → WorkedTo done size from first reached x z
-to_then done size from first mid further most reached x y z low on high to one two =
+pub to_then : (done : Bool) (size from first mid further most reached : ℕ) (x y z : Option Past) → from ≤ further → mid ≤ most → most ≤ 2 ^ 31 - 1 → (done ≡ true → most ≡ reached) → most ≤ reached + 1 → WorkedTo true size from first mid x y → (two : Worked done (SparesAllBut (IsPreparing further most)) size mid most y z) → reached ≤ two.last → WorkedTo done size from first reached x z
+unfolding worked_then
+to_then done size from first mid further most reached x y z low on high to next one two least =
     let J : Files → Files → Type 0 = SparesAllBut (IsPreparing from mid) in
-    let one_is : Works J size first mid x y = subst (λ (n : ℕ). Works (SparesAllBut (IsPreparing from n)) size first n x y) (one.2 refl) (worked_works (SparesAllBut (IsPreparing from one.0)) size first one.0 x y one.3) in
-    let least : first ≤ mid = omega (arith, one.3.least, one.3.within, one.2 refl) in (
-      most,
-      high,
-      to,
-      worked_then done J (SparesAllBut (IsPreparing further most)) (SparesAllBut (IsPreparing from most)) size first mid most x y z
+    let one_is : Works J size first mid x y = subst (λ (n : ℕ). Works (SparesAllBut (IsPreparing from n)) size first n x y) (one.all refl) (worked_works (SparesAllBut (IsPreparing from one.most)) size first one.most x y one.worked) in
+    let begun : first ≤ mid = omega (arith, one.worked.least, one.worked.within, one.all refl) in
+    record {
+      most = most;
+      limit = high;
+      all = to;
+      next = next;
+      worked = worked_then done J (SparesAllBut (IsPreparing further most)) (SparesAllBut (IsPreparing from most)) size first mid most x y z
           (spares_wider (IsPreparing from mid) (IsPreparing from most) (preparing_from from from mid most (omega arith) on))
-          (spares_then (IsPreparing from mid) (IsPreparing further most) (IsPreparing from most) (preparing_from from from mid most (omega arith) on) (preparing_from from further most most low (omega arith))) (omega (arith, high)) least one_is two,
-    )
-
--- behind it nothing else was done
-pub to_same : (done : Bool) (size from first reached other : ℕ) (x y : Option Past) → (done ≡ true → other ≡ reached) → WorkedTo done size from first reached x y → WorkedTo done size from first other x y
-to_same done size from first reached other x y is w = (w.0, w.1, λ d. w.2 d ∙ sym (is d), w.3)
+          (spares_then (IsPreparing from mid) (IsPreparing further most) (IsPreparing from most) (preparing_from from from mid most (omega arith) on) (preparing_from from further most most low (omega arith))) (omega (arith, high)) begun one_is two;
+      least = least;
+    }
 
 pub nil_files : {A : Type 0} (fs : List A) → is_nil fs ≡ true → fs ≡ []
 nil_files [] is = refl
 nil_files (f ∷ fs) is = absurd cc
+
+pub none_by : {A : Type 0} (o : Option A) → is_some o ≡ false → o ≡ None
+none_by None is = refl
+none_by (Some x) is = absurd cc
+
+-- a further file may be made, whose number is left
+pub most_limit : (m : Bool) (p : PoolOf) → p.highest ≤ 2 ^ 31 - 1 → (m ≡ true → p.prepared ≡ [] → p.highest < 2 ^ 31 - 1) → cond (m && is_nil p.prepared) (p.highest + 1) p.highest ≤ 2 ^ 31 - 1
+most_limit false p low left = low
+most_limit true p low left = by (is_nil p.prepared) refl where
+  by : (b : Bool) → is_nil p.prepared ≡ b → cond b (p.highest + 1) p.highest ≤ 2 ^ 31 - 1
+  by true e = omega (arith, left refl (nil_files p.prepared e))
+  by false e = low

@@ -1,17 +1,20 @@
 -- Data files by their ids and lengths, which of them are new, and which names calls may touch: what is so and what isn't.
-use Rattle.std.proofs.Common.{◌≡◌, ◌⊎◌, inl, inr, ⊎_elim, ℕ, ◌+◌, ◌-◌, ◌^◌, ◌<◌, ◌≤◌, Bool, true, false, cond, List, [], ◌∷◌, ◌++◌, length, codes, Option, None, Some, refl, sym, ap, subst, ◌∙◌, arith}
-use Rattle.std.specs.Prelude.{IsTrue}
+use Rattle.std.proofs.Common.{◌≡◌, inl, inr, ⊎_elim, ℕ, ◌+◌, ◌-◌, ◌^◌, ◌≤◌, Bool, true, false, cond, List, [], ◌∷◌, codes, Option, None, Some, refl, sym, ap, subst, ◌∙◌, arith}
+use Rattle.std.specs.Prelude.{IsSome, is_some}
 use Rattle.std.specs.FinMap as finite
 use Rattle.std.proofs.lemmas.Option.{same_Some, none-some}
+use Rattle.amq_model.specs.declared.config.Config.{Config}
+use Rattle.amq_model.specs.declared.record.Placed.{Placed}
+use Rattle.amq_model.specs.declared.record.Record.TheVariants.{Rollback}
 use Rattle.amq_model.specs.Names.{is_data, data_number}
 use Rattle.amq_model.specs.Files.{FileName, File, Files}
-use Rattle.amq_model.specs.Calls.{Past}
-use Rattle.amq_model.specs.Leaves.{IsSyncedFile}
-use Rattle.amq_header.specs.Classes.{data_name, temporary_name}
-use Rattle.amq_header.proofs.Made.{data_is_read}
-use Rattle.amq_loader.specs.Loads.{is_leftover}
-use Rattle.amq_engine.specs.DataFiles.{id_and_length, data_file_at, HasSameFiles, HasFilesMade, HasId, IsNumbered, IsPreparing, IsUsedOrNew, IsRenewed, LeavesAllBut, SyncsAllBut, WorkedTo}
+use Rattle.amq_model.specs.Calls.{Past, content}
+use Rattle.amq_model.specs.Leaves.{Leaves, Syncs, IsSyncedFile}
+use Rattle.amq_header.specs.Classes.{data_name, temporary_name, temporary_number}
+use Rattle.amq_header.proofs.Made.{data_is_read, temporary_is_read, temporary_differ}
+use Rattle.amq_engine.specs.DataFiles.{id_and_length, data_file_at, HasSameFiles, HasFilesMade, HasId, IsNumbered, IsPreparing, IsUsedOrNew, IsRenewed, LeavesAllBut, SyncsAllBut, WorkedTo, HasFilesOf, HasFilesSoFar, HasFailedFiles, file_of_last}
 use Rattle.amq_engine.proofs.DataFiles.{same_made}
+use Rattle.amq_engine.proofs.Standing.{temporary_apart}
 
 -- a header of version 2 and id 3, and one byte
 abbrev bytes : List ℕ
@@ -79,20 +82,116 @@ pub no_other : (n m : FileName) → (m ≡ n → ⊥) → IsUsedOrNew n 3 2 m �
 no_other n m other is = ⊎_elim (λ (e : m ≡ n). other e) (λ p. none_is_prepared m p) is
 
 -- what an opening may remove or make
-pub a_temporary_file_goes : IsRenewed 0 0 (codes "activemq-data-7.amq.tmp")
-a_temporary_file_goes = inl refl
+pub a_temporary_file_goes : IsRenewed None 0 0 (codes "activemq-data-7.amq.tmp")
+a_temporary_file_goes = inl (refl, tt)
 
-pub notes_stay : IsRenewed 0 5 (codes "notes.txt") → ⊥
-notes_stay (inl is) = let other : false ≡ true = is in cc
-notes_stay (inr is) = none-some is.0 (ap data_number is.3 ∙ data_is_read is.0 (omega (arith, is.2)))
+-- a temporary file that wasn't there is made for a new number alone
+pub none_of_an_old_number : (old : Past) → finite.get (content old.start old.calls) (temporary_name 3) ≡ None → IsRenewed (Some old) 3 5 (temporary_name 3) → ⊥
+none_of_an_old_number old none (inl is) = lost (finite.get (content old.start old.calls) (temporary_name 3)) none is.1 where
+  lost : (f : Option File) → f ≡ None → IsSome f → ⊥
+  lost None e some = absurd cc
+  lost (Some f) e some = none-some f (sym e)
+none_of_an_old_number old none (inr (k, above, below, inl e)) = temporary_apart 3 (data_name k) (inl (ap is_some (data_is_read k (omega (arith, below))))) (sym e)
+none_of_an_old_number old none (inr (k, above, below, inr e)) = omega (arith, above, temporary_differ 3 k (omega arith) (omega (arith, below)) e)
+
+pub notes_stay : (old : Option Past) (first last : ℕ) → last ≤ 2 ^ 31 - 1 → IsRenewed old first last (codes "notes.txt") → ⊥
+notes_stay old first last low (inl is) = let other : false ≡ true = is.0 in cc
+notes_stay old first last low (inr (k, above, below, inl e)) = none-some k (ap data_number e ∙ data_is_read k (omega (arith, below, low)))
+notes_stay old first last low (inr (k, above, below, inr e)) = none-some (Some k) (ap temporary_number e ∙ temporary_is_read k (omega (arith, below, low)))
 
 pub a_file_that_goes : (n : FileName) (f : File) (o s : Files) → finite.get o n ≡ Some f → finite.get s n ≡ None → SyncsAllBut (λ m. ⊥) o s → ⊥
 a_file_that_goes n f o s had none keeps = subst (λ (g : Option File). IsSyncedFile (Some f) g) none (subst (λ (g : Option File). IsSyncedFile g (finite.get s n)) had (keeps n (λ no. no)))
 
 -- numbers of files go up to the greatest one
 pub no_greater_number : (a b : Option Past) → WorkedTo true 64 1 1 (2 ^ 31) a b → ⊥
-no_greater_number a b w = omega (arith, w.1, w.2 refl)
+no_greater_number a b w = omega (arith, w.limit, w.all refl)
 
 -- a disk that tells nothing still does
 pub nothing_told : (Among : Files → FileName → Type 0) → LeavesAllBut Among None None
 nothing_told Among = refl
+
+-- ---- a run
+
+-- an append in that file
+abbrev append_in : ℕ → Placed
+append_in file = record { file = file; place = 16; compact = 0; rec = Rollback 1 }
+
+pub none_appended : file_of_last 4 [] ≡ 4
+none_appended = refl
+
+pub the_last_counts : file_of_last 4 (append_in 5 ∷ append_in 7 ∷ []) ≡ 7
+the_last_counts = refl
+
+-- of a disk that tells nothing nothing is known
+pub files_untold : (config : Config) → config.min_files ≤ 1 → HasFilesOf true config (append_in 1 ∷ []) None None
+files_untold config few = record {
+  files = 0;
+  before = 0;
+  had = tt;
+  most = 1;
+  limit = omega arith;
+  begun = omega arith;
+  worked = record { last = 1; least = omega arith; within = omega arith; near = omega arith; all = λ is. refl; works = record { keeps = refl; files = tt } };
+  stands = omega arith;
+  enough = λ is. inl (omega (arith, few));
+  no_more = inl (omega arith);
+}
+
+-- none is left out that the last append needs
+pub no_append_without_its_file : (done : Bool) (config : Config) (a b : Option Past) (h : HasFilesOf done config (append_in 4 ∷ []) a b) → h.most ≡ 3 → ⊥
+no_append_without_its_file done config a b h is = omega (arith, h.stands, h.worked.within, is)
+
+-- and none is one too many
+pub no_file_too_many : (config : Config) (a b : Option Past) (h : HasFilesOf true config (append_in 4 ∷ []) a b) → config.min_files ≤ h.files → h.most ≡ 5 → ⊥
+no_file_too_many config a b h few is = ⊎_elim (λ (le : h.most ≤ 4). omega (arith, le, is)) (λ (le : h.files + (h.most - h.before) ≤ config.min_files). omega (arith, le, few, is, h.begun)) h.no_more
+
+-- where not all was done that of the next append may be there, and no further one
+pub no_second_file_too_many : (config : Config) (a b : Option Past) (h : HasFilesOf false config (append_in 4 ∷ []) a b) → config.min_files ≤ h.files → h.most ≡ 6 → ⊥
+no_second_file_too_many config a b h few is = ⊎_elim (λ (le : h.most ≤ 5). omega (arith, le, is)) (λ (le : h.files + (h.most - h.before) ≤ config.min_files). omega (arith, le, few, is, h.begun)) h.no_more
+
+-- an opening that failed at once
+pub nothing_was_done : (config : Config) (old : Option Past) → Leaves Syncs Syncs old old → HasFailedFiles config [] old old
+nothing_was_done config old same = inl same
+
+-- a file of another name is never lost
+pub no_other_file_is_lost : (config : Config) (history : List Placed) (p q : Past) (f : File) → finite.get (content p.start p.calls) (codes "notes.txt") ≡ Some f → finite.get (content q.start q.calls) (codes "notes.txt") ≡ None → HasFailedFiles config history (Some p) (Some q) → ⊥
+no_other_file_is_lost config history p q f had none failed = by failed where
+  lost : (o s : Option File) → o ≡ Some f → s ≡ None → IsSyncedFile o s → ⊥
+  lost None s had none same = none-some f had
+  lost (Some o) None had none same = same
+  lost (Some o) (Some s) had none same = none-some s (sym none)
+
+  now : (r : Past) → Some q ≡ Some r → finite.get (content r.start r.calls) (codes "notes.txt") ≡ None
+  now r e = subst (λ (x : Past). finite.get (content x.start x.calls) (codes "notes.txt") ≡ None) (same_Some q r e) none
+
+  by : HasFailedFiles config history (Some p) (Some q) → ⊥
+  by (inl went) = lost (finite.get (content p.start p.calls) (codes "notes.txt")) (finite.get (content went.0.start went.0.calls) (codes "notes.txt")) had (now went.0 went.1) (went.2.told (codes "notes.txt"))
+  by (inr h) =
+      let went = h.worked.works.keeps in
+      lost (finite.get (content p.start p.calls) (codes "notes.txt")) (finite.get (content went.0.start went.0.calls) (codes "notes.txt")) had (now went.0 went.1) (went.2.told (codes "notes.txt") (notes_stay (Some p) h.before h.most h.limit))
+
+-- a journal that has appended nothing so far
+pub so_far_untold : (config : Config) → config.min_files ≤ 1 → HasFilesSoFar true config 1 16 1 (record { base = []; steps = []; receipts = [] }) None None
+so_far_untold config few = record {
+  files = record {
+    files = 0;
+    before = 0;
+    had = tt;
+    most = 1;
+    limit = omega arith;
+    begun = omega arith;
+    worked = record { last = 1; least = omega arith; within = omega arith; near = omega arith; all = λ is. refl; works = record { keeps = refl; files = tt } };
+    stands = omega arith;
+    enough = λ is. inl (omega (arith, few));
+    no_more = inl (omega arith);
+  };
+  reached = omega arith;
+  next = omega arith;
+  all = λ is. refl;
+  begun = omega arith;
+  stands = (tt, (refl, refl));
+}
+
+-- the file in use is never one behind the greatest number
+pub none_in_use_is_behind : (config : Config) (a b : Option Past) → HasFilesSoFar true config 2 16 1 (record { base = []; steps = []; receipts = [] }) a b → ⊥
+none_in_use_is_behind config a b h = omega (arith, h.files.begun, h.all refl, h.stands.1.0)

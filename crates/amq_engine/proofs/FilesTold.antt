@@ -1,5 +1,5 @@
 -- What a call of an engine says of the data files, from what it did.
-use Rattle.std.proofs.Common.{◌≡◌, ◌⊎◌, inl, inr, ⊎_elim, ℕ, ◌+◌, ◌-◌, ◌^◌, ◌<◌, ◌≤◌, Bool, true, false, cond, leb, List, [], ◌∷◌, ◌++◌, length, take, drop, Option, None, Some, refl, sym, ap, subst, ◌∙◌, arith}
+use Rattle.std.proofs.Common.{◌≡◌, ◌⊎◌, inl, inr, ⊎_elim, ℕ, ◌+◌, ◌^◌, ◌<◌, ◌≤◌, Bool, true, false, cond, List, [], ◌∷◌, ◌++◌, length, take, drop, Option, None, Some, refl, sym, ap, subst, ◌∙◌, arith}
 use Rattle.std.specs.Prelude.{IsTrue, All, ◌&&◌}
 use Rattle.std.specs.Int.{w64, from_be_bytes}
 use Rattle.std.specs.FinMap as finite
@@ -8,13 +8,12 @@ use Rattle.std.proofs.lemmas.List.Elements.{All-weaker}
 use Rattle.amq_model.specs.declared.config.Config.{Config}
 use Rattle.amq_model.specs.Configs.{IsConfig}
 use Rattle.amq_model.specs.Names.{is_data}
-use Rattle.amq_model.specs.Files.{FileName, File, Files}
+use Rattle.amq_model.specs.Files.{FileName, Files}
 use Rattle.amq_model.specs.Calls.{Past, content}
 use Rattle.amq_model.specs.Leaves.{Leaves, Told, SparesAllBut}
 use Rattle.amq_model.proofs.Keeping.{all_told}
 use Rattle.amq_model.proofs.Chain.{loosely}
 use Rattle.amq_scan.specs.Written.{Item, IsItem}
-use Rattle.amq_scan.specs.Segments.{Segment}
 use Rattle.amq_scan.proofs.Lengths.{end_is}
 use Rattle.amq_tx.specs.State.{TxState}
 use Rattle.amq_pool.specs.declared.pool.PoolFile.{PoolFile}
@@ -23,7 +22,7 @@ use Rattle.amq_engine.specs.declared.tail.Tail.{Tail}
 use Rattle.amq_engine.specs.Lists.{Lists}
 use Rattle.amq_engine.specs.Directory.{StandsNow, IsInUse}
 use Rattle.amq_engine.specs.Engine.{Parts, IsSound, IsNewItem, pool_readied, is_nil}
-use Rattle.amq_engine.specs.DataFiles.{data_file_at, id_and_length, HasSameFiles, HasFilesMade, HasId, IsPreparing, IsUsedOrNew, LeavesAllBut, Works, Worked}
+use Rattle.amq_engine.specs.DataFiles.{id_and_length, HasSameFiles, HasFilesMade, HasId, IsPreparing, IsUsedOrNew, LeavesAllBut, Works, Worked}
 use Rattle.amq_engine.proofs.Segments.{in_use_segment}
 use Rattle.amq_engine.proofs.Listing.{listed_data, has_used, used_id}
 use Rattle.amq_engine.proofs.Standing.{now_used}

@@ -1,5 +1,5 @@
 -- Which calls a command makes, and what a call of an engine leaves tidy.
-use Rattle.std.proofs.Common.{◌≡◌, ℕ, ◌+◌, ◌≤◌, Bool, true, false, cond, List, Option, None, Some, Result, Ok, Err, refl, sym, ap, subst, ◌∙◌, arith}
+use Rattle.std.proofs.Common.{◌≡◌, ℕ, true, false, Option, Err, sym, ap, ◌∙◌}
 use Rattle.std.specs.Prelude.{◌||◌, ◌&&◌, is_some}
 use Rattle.amq_model.specs.declared.command.Command.{Command}
 use Rattle.amq_model.specs.declared.refusal.Refusal.{Refusal}
@@ -21,3 +21,7 @@ writes_by e command size end capacity waiting since a b c d s =
 pub fault_unnoted : (fault : DiskFault) (q : Refusal) → q ≡ fault_refusal fault → is_noted (Err q) ≡ true → ⊥
 fault_unnoted (f.Disk call) q is noted = let none : is_noted (Err q) ≡ false = ap (λ (r : Refusal). is_noted (Err r)) is in absurd cc
 fault_unnoted f.NoMemory q is noted = let none : is_noted (Err q) ≡ false = ap (λ (r : Refusal). is_noted (Err r)) is in absurd cc
+
+pub fault_noted : (fault : DiskFault) (q : Refusal) → q ≡ fault_refusal fault → is_noted (Err q) ≡ false
+fault_noted (f.Disk call) q is = ap (λ (r : Refusal). is_noted (Err r)) is
+fault_noted f.NoMemory q is = ap (λ (r : Refusal). is_noted (Err r)) is

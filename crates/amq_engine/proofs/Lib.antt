@@ -23,6 +23,7 @@ pub mod Leaving
 pub mod DataFiles
 pub mod FilesTold
 pub mod OpenedFiles
+pub mod JournalFiles
 pub mod Counting
 pub mod Accepting
 pub mod Found

@@ -1,13 +1,13 @@
 -- Which calls an opening makes up to its first receipt.
-use Rattle.std.proofs.Common.{◌≡◌, ◌⊎◌, inl, inr, ℕ, List, [], ◌∷◌, ◌++◌, map, Option, None, Some, refl, sym, ◌∙◌, ap, subst}
-use Rattle.std.specs.Prelude.{Result, Ok, Err, OnOk}
+use Rattle.std.proofs.Common.{◌≡◌, inl, inr, ℕ, List, [], ◌∷◌, ◌++◌, map, Option, None, refl, ◌∙◌, ap, subst}
+use Rattle.std.specs.Prelude.{Result, Ok}
 use Rattle.std.specs.FinMap as finite
 use Rattle.amq_model.specs.declared.directory.DataFile.{DataFile}
 use Rattle.amq_model.specs.Directory.{FileOf, data_files}
 use Rattle.amq_model.specs.Files.{Files}
 use Rattle.amq_model.specs.Calls.{Call, Event, Past, syncing}
 use Rattle.amq_model.specs.Leaves.{Told}
-use Rattle.amq_model.specs.LoadCalls.{AreCalls, AreFirstCalls, AreCallsBy, Makes, load_calls}
+use Rattle.amq_model.specs.LoadCalls.{AreCalls, AreFirstCalls, Makes, load_calls}
 use Rattle.amq_model.proofs.Making.{all_then, first_then, all_are_first, none_are_first, made_none, made_so, made_weaker, made_then}
 use Rattle.amq_loader.specs.declared.faults.LoadFault.{LoadFault}
 use Rattle.amq_loader.specs.declared.loaded.Loaded.{Loaded}

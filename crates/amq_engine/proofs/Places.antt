@@ -5,14 +5,12 @@ use Rattle.std.specs.List.{cons_option}
 use Rattle.std.proofs.lemmas.List.{append-nil, length-append}
 use Rattle.std.proofs.lemmas.List.Sums.{fold-append}
 use Rattle.amq_model.specs.declared.record.Record.{Record}
-use Rattle.amq_model.specs.declared.record.Record.TheVariants as r
 use Rattle.amq_model.specs.declared.record.Placed.{Placed}
 use Rattle.amq_model.specs.declared.config.Config.{Config}
 use Rattle.amq_model.specs.declared.history.Step.{Step}
 use Rattle.amq_model.specs.RecordAt.{len_of, spelling}
 use Rattle.amq_model.specs.Answers.{history_of}
-use Rattle.amq_model.specs.Legal.{end_of}
-use Rattle.amq_model.specs.Calls.{Past, content}
+use Rattle.amq_model.specs.Calls.{Past}
 use Rattle.amq_model.specs.Leaves.{Told}
 use Rattle.amq_record.proofs.Records.{length_spelling}
 use Rattle.amq_tx.specs.State.{TxState}
@@ -21,7 +19,7 @@ use Rattle.amq_pool.specs.Pools.{PoolOf, ids_of, numbered_file}
 use Rattle.amq_engine.specs.declared.tail.Tail.{Tail}
 use Rattle.amq_engine.specs.Lists.{Lists, with_step, steps_in}
 use Rattle.amq_engine.specs.Directory.{files_from}
-use Rattle.amq_engine.specs.Engine.{Parts, passes, readied, written_out, gone_on, next_file, end_of_tail, placed_behind, with_put, Waits, Wrote}
+use Rattle.amq_engine.specs.Engine.{Parts, passes, readied, written_out, next_file, end_of_tail, placed_behind, with_put, Waits, Wrote}
 use Rattle.amq_engine.specs.Opening.{HasNumbers, EndsIn, IsFilled, AreFirstRollbacks, place_behind, StandBehind, StandsFrom, rollback_behind, rollbacks_behind}
 use Rattle.amq_engine.proofs.History.{history-snoc}
 use Rattle.amq_engine.proofs.Listing.{used_id}

@@ -1,6 +1,6 @@
 -- Where the rollbacks of an opening stand.
 use Rattle.std.proofs.Common.{◌≡◌, ◌⊎◌, inl, inr, ℕ, zero, suc, ◌+◌, ◌<◌, Bool, true, false, cond, List, [], ◌∷◌, ◌++◌, length, Option, None, Some, refl, sym, ap, subst, ◌∙◌, arith}
-use Rattle.std.specs.Prelude.{IfSome, fold, take, nat_lt, option_map, slice_get}
+use Rattle.std.specs.Prelude.{IfSome, fold, take, option_map, slice_get}
 use Rattle.std.specs.List.{cons_option}
 use Rattle.std.proofs.lemmas.List.{length-append}
 use Rattle.amq_model.specs.declared.record.Record.TheVariants as r
@@ -10,13 +10,12 @@ use Rattle.amq_model.specs.declared.history.Step.{Step}
 use Rattle.amq_model.specs.RecordAt.{len_of}
 use Rattle.amq_model.specs.Answers.{history_of}
 use Rattle.amq_model.specs.Legal.{end_of, rolled_back}
-use Rattle.amq_model.specs.Calls.{Past, content}
+use Rattle.amq_model.specs.Calls.{Past}
 use Rattle.amq_model.specs.Leaves.{Told}
 use Rattle.amq_pool.specs.declared.pool.PoolFile.{PoolFile}
 use Rattle.amq_pool.specs.Pools.{PoolOf, numbered_file}
 use Rattle.amq_engine.specs.declared.tail.Tail.{Tail}
-use Rattle.amq_engine.specs.declared.chronicle.Receipted.{Receipted}
-use Rattle.amq_engine.specs.Lists.{Lists, with_step, with_receipt, steps_in}
+use Rattle.amq_engine.specs.Lists.{Lists, with_step, steps_in}
 use Rattle.amq_engine.specs.Engine.{IsBlank, passes, readied, written_out, gone_on, next_file, end_of_tail, placed_behind, receipted, Waits, Wrote}
 use Rattle.amq_engine.specs.Opening.{HasNumbers, EndsIn, AreFirstRollbacks, rollback_behind, rollbacks_behind}
 use Rattle.amq_engine.proofs.History.{history-snoc}

@@ -1,10 +1,9 @@
 -- Where the numbers of files are spent, the last append stands in the file of the greatest number.
-use Rattle.std.proofs.Common.{◌≡◌, ℕ, zero, suc, ◌+◌, ◌-◌, ◌^◌, ◌<◌, ◌≤◌, Bool, true, false, cond, ltb, List, [], ◌∷◌, ◌++◌, Option, None, Some, refl, sym, ap, subst, ◌∙◌, arith}
-use Rattle.std.specs.Prelude.{fold, map, option_map, ◌&&◌}
+use Rattle.std.proofs.Common.{◌≡◌, ℕ, zero, suc, ◌+◌, ◌-◌, ◌^◌, Bool, true, false, ltb, List, [], ◌∷◌, ◌++◌, Option, None, Some, refl, sym, ap, ◌∙◌, arith}
+use Rattle.std.specs.Prelude.{fold, map, option_map}
 use Rattle.std.proofs.lemmas.Bool.{ltb-true}
 use Rattle.std.proofs.lemmas.List.Sums.{fold-append}
 use Rattle.amq_model.specs.declared.record.Record.{Record}
-use Rattle.amq_model.specs.declared.record.Placed.{Placed}
 use Rattle.amq_model.specs.declared.command.Command.{Command}
 use Rattle.amq_model.specs.declared.config.Config.{Config}
 use Rattle.amq_model.specs.declared.history.Answer.TheVariants.{Refused}

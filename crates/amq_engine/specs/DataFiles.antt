@@ -1,17 +1,20 @@
 -- Which data files there are behind calls of a disk, and which files the calls leave alone.
-use Rattle.std.specs.Prelude.{◌≡◌, ◌⊎◌, ℕ, ◌+◌, ◌-◌, ◌^◌, ◌<◌, ◌≤◌, Bool, true, false, nat_le, if◌then◌else◌, take, drop, length, Option, None, Some, IsTrue}
+use Rattle.std.specs.Prelude.{◌≡◌, ◌⊎◌, ℕ, ◌+◌, ◌-◌, ◌^◌, ◌<◌, ◌≤◌, Bool, true, false, nat_le, if◌then◌else◌, fold, List, take, drop, length, Option, None, Some, IsTrue}
 use Rattle.std.specs.Int.{w64, from_be_bytes}
 use Rattle.std.specs.FinMap as finite
 use Rattle.amq_model.specs.declared.config.Config.{Config}
 use Rattle.amq_model.specs.declared.command.Command.{Command}
-use Rattle.amq_model.specs.Names.{is_data, control_name}
+use Rattle.amq_model.specs.declared.record.Placed.{Placed}
+use Rattle.amq_model.specs.Answers.{history_of}
+use Rattle.amq_model.specs.Names.{is_data}
 use Rattle.amq_model.specs.Directory.{data_files}
 use Rattle.amq_model.specs.Files.{FileName, File, Files, Image, IsReading}
 use Rattle.amq_model.specs.Calls.{Past, content}
-use Rattle.amq_model.specs.Leaves.{Leaves, Told, IsSyncedFile, SparesAllBut}
+use Rattle.amq_model.specs.Leaves.{Leaves, Syncs, Told, IsThere, IsSyncedFile, SparesAllBut}
 use Rattle.amq_header.specs.Classes.{data_name, temporary_name}
 use Rattle.amq_loader.specs.Loads.{is_leftover}
-use Rattle.amq_engine.specs.Opening.{HasNumbers}
+use Rattle.amq_engine.specs.Lists.{Lists}
+use Rattle.amq_engine.specs.Opening.{HasNumbers, StandsFrom}
 use Rattle.amq_engine.specs.Engine.{EngineOf, prepares}
 
 -- ---- the data files
@@ -71,9 +74,9 @@ IsCommandFile e command s n = HasId e.file s n ⊎ (IsTrue (prepares e command) 
 abbrev pub SyncsAllBut : (FileName → Type 0) → Files → Files → Type 0
 SyncsAllBut Among o s = (n : FileName) → (Among n → ⊥) → IsSyncedFile (finite.get o n) (finite.get s n)
 
--- a file that an opening may remove or make: a compacted or temporary one, or a data file with a number above the first one, up to the last
-abbrev pub IsRenewed : ℕ → ℕ → FileName → Type 0
-IsRenewed first last n = IsTrue (is_leftover n) ⊎ IsNumbered first last n
+-- what an opening may remove or make: a compacted or temporary file that was there; and for each number above the first one, up to the last, the data file and the file that it is prepared as
+abbrev pub IsRenewed : Option Past → ℕ → ℕ → FileName → Type 0
+IsRenewed old first last n = (IsTrue (is_leftover n) × Told old (IsThere n)) ⊎ IsPreparing (first + 1) last n
 
 -- ---- what calls have done
 
@@ -91,19 +94,56 @@ pub record Worked (done : Bool) (Keeps : Files → Files → Type 0) (size first
   pub all : done ≡ true → last ≡ most
   pub works : Works Keeps size first last old new
 
--- The same up to some number that a file may have, which is this one where all was done; files of numbers from `from` on may be written to.
-abbrev pub WorkedTo : Bool → ℕ → ℕ → ℕ → ℕ → Option Past → Option Past → Type 0
-WorkedTo done size from first reached old new = (most : ℕ) × (most ≤ 2 ^ 31 - 1) × (done ≡ true → most ≡ reached) × Worked done (SparesAllBut (IsPreparing from most)) size first most old new
+-- The same up to some number that a file may have: the number reached where all was done, and else that or the one behind it; files of numbers from `from` on may be written to.
+pub record WorkedTo (done : Bool) (size from first reached : ℕ) (old new : Option Past) : Type 0 where
+  pub most : ℕ
+  pub limit : most ≤ 2 ^ 31 - 1
+  pub all : done ≡ true → most ≡ reached
+  pub next : most ≤ reached + 1
+  pub worked : Worked done (SparesAllBut (IsPreparing from most)) size first most old new
+  pub least : reached ≤ worked.last
 
 -- ---- an opening
 
--- What an opening leaves, on a disk that tells: no file is written to but leftovers and the files of the new numbers, up to the highest; the data files are those that there were and those of the new numbers; and they are as many as the configuration asks for, or the numbers are spent.
+-- What an opening leaves, on a disk that tells: no file is written to but leftovers that were there and the files of the new numbers, up to the highest; the data files are those that there were and those of the new numbers; and they are as many as the configuration asks for, or the numbers are spent.
 pub record HasOpenedFiles (config : Config) (highest : ℕ) (old new : Option Past) : Type 0 where
   pub files : ℕ
   pub before : ℕ
   pub had : Told old (HasNumbers files before)
   pub begun : before < highest
-  pub works : Works (SyncsAllBut (IsRenewed before highest)) config.file_size before highest old new
+  pub works : Works (SyncsAllBut (IsRenewed old before highest)) config.file_size before highest old new
   pub count : Told new (HasCount (files + (highest - before)))
   pub enough : (config.min_files ≤ files + (highest - before)) ⊎ (highest ≡ 2 ^ 31 - 1)
   pub most : highest ≤ 2 ^ 31 - 1
+
+-- ---- a run
+
+-- the file of the last append, or this one where there is none
+abbrev pub file_of_last : ℕ → List Placed → ℕ
+file_of_last first history = fold (λ _ p. p.file) first history
+
+-- Which data files there are behind calls from an opening on that made this history: those that there were, and those of the next numbers, as many as the history and the configuration need; where not all was done, maybe one file more is asked for, which may be there or not; and the calls wrote to no file but the new ones and leftovers that were there.
+pub record HasFilesOf (done : Bool) (config : Config) (history : List Placed) (old new : Option Past) : Type 0 where
+  pub files : ℕ
+  pub before : ℕ
+  pub had : Told old (HasNumbers files before)
+  pub most : ℕ
+  pub limit : most ≤ 2 ^ 31 - 1
+  pub begun : before < most
+  pub worked : Worked done (SyncsAllBut (IsRenewed old before most)) config.file_size before most old new
+  pub stands : file_of_last before history ≤ worked.last
+  pub enough : done ≡ true → (config.min_files ≤ files + (most - before)) ⊎ (most ≡ 2 ^ 31 - 1)
+  pub no_more : (most ≤ (if done then file_of_last (before + 1) history else file_of_last (before + 1) history + 1)) ⊎ (files + (most - before) ≤ config.min_files)
+
+-- The same of the calls so far of a journal whose greatest number this is, and whose history stands from the head of the first new file on, up to this end of the file in use.
+pub record HasFilesSoFar (done : Bool) (config : Config) (file end highest : ℕ) (l : Lists) (old new : Option Past) : Type 0 where
+  pub files : HasFilesOf done config (history_of l.steps) old new
+  pub reached : highest ≤ files.worked.last
+  pub next : files.most ≤ highest + 1
+  pub all : done ≡ true → files.most ≡ highest
+  pub begun : files.before < file
+  pub stands : StandsFrom config (files.before + 1) file end l
+
+-- what an opening that failed leaves: all files with the bytes that they had, or the files of what it appended
+abbrev pub HasFailedFiles : Config → List Placed → Option Past → Option Past → Type 0
+HasFailedFiles config history old new = Leaves Syncs Syncs old new ⊎ HasFilesOf false config history old new

@@ -84,7 +84,8 @@ impl Kept {
 }
 
 impl Chronicle for Kept {
-    ghost lists = { λ k. Some (record { base = k.base; steps = k.steps.items; receipts = k.receipts.items }) };
+    ghost lists = { λ k.
+        Some (record { base = k.base; steps = k.steps.items; receipts = k.receipts.items }) };
 
     ghost step_room = { λ k. k.steps.room };
 

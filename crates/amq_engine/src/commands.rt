@@ -103,7 +103,10 @@ pub fn numbered(
     rec: Option<Record>,
 ) -> Option<Record>
     requires record { rec ≡ record_of command.now 0 }
-    ensures record { (base : List Placed) (steps : List Step) → Follows (state_of table.now) base steps → AreBelow file base → result ≡ record_of command.now (number_for (base ++ history_of steps) command.now file) }
+    ensures record { (base : List Placed) (steps : List Step)
+        → Follows (state_of table.now) base steps
+        → AreBelow file base
+        → result ≡ record_of command.now (number_for (base ++ history_of steps) command.now file) }
     ensures length { option_map len_of result ≡ option_map len_of rec }
     ensures values { IfSome rec IsRecord → IfSome result IsRecord }
 {
@@ -132,7 +135,9 @@ pub fn refusal_of(
 ) -> Option<Refusal>
     requires record { option_map len_of rec.now ≡ record_len command.now }
     requires size { 16 ≤ config.now.file_size }
-    ensures first { result ≡ refused config.now (refusal_in (state_of table.now) command.now) (spent moves pool.now.highest (ids_of pool.now.prepared)) command.now }
+    ensures first { result
+        ≡ refused config.now (refusal_in (state_of table.now) command.now)
+        (spent moves pool.now.highest (ids_of pool.now.prepared)) command.now }
     ensures kind { IfSome result IsCommandRefusal }
 {
     if let Some(refusal) = length_refusal(config, rec) {

@@ -1,7 +1,7 @@
 //! The journal over one disk.
-ghost use Rattle.std.specs.Prelude.{◌≡◌, ◌⊎◌, ◌↔◌, ◌+◌, ◌<◌, ◌≤◌, ◌&&◌, ◌-◌, ◌^◌, ℕ, max, nat_lt, false, true, if◌then◌else◌, [], length, None, Some, is_ok, is_some, Ok, Err, IsTrue, IfSome, IsSome, IfOk, IfErr, OnOk, OnErr};
+ghost use Rattle.std.specs.Prelude.{◌≡◌, ◌⊎◌, ◌↔◌, ◌+◌, ◌<◌, ◌≤◌, ◌&&◌, ◌-◌, ◌^◌, ℕ, Bool, Option, max, nat_lt, false, true, if◌then◌else◌, [], length, None, Some, is_ok, is_some, Ok, Err, IsTrue, IfSome, IsSome, IfOk, IfErr, OnOk, OnErr};
 ghost use Rattle.amq_model.specs.Configs.{IsConfig};
-ghost use Rattle.amq_model.specs.Calls.{counted};
+ghost use Rattle.amq_model.specs.Calls.{Past, counted};
 ghost use Rattle.amq_model.specs.Leaves.{Told};
 ghost use Rattle.amq_model.specs.Effect.{result_of};
 ghost use Rattle.amq_model.specs.Legal.{AreLegalOfRefused, rolled_back, end_of};
@@ -12,7 +12,7 @@ ghost use Rattle.amq_buffer.specs.Buffered.{is_due};
 ghost use Rattle.amq_loader.specs.Loads.{IsStateOf, IsTidy};
 ghost use Rattle.amq_engine.specs.Directory.{IsJournal};
 ghost use Rattle.amq_engine.specs.Opening.{HasBase, AreRolledBack, AreFirstRollbacks, IsFilled, StandsFrom, HasOpenCause};
-ghost use Rattle.amq_engine.specs.DataFiles.{HasFilesMade, HasSameFiles, HasId, LeavesAllBut, IsCommandFile, HasOpenedFiles};
+ghost use Rattle.amq_engine.specs.DataFiles.{HasFilesMade, HasSameFiles, HasId, LeavesAllBut, IsCommandFile, HasOpenedFiles, HasFailedFiles, HasFilesOf, HasFilesSoFar};
 ghost use Rattle.amq_engine.specs.Receipts.{IsCrashSafe, GoesOn, BeginsBySyncs};
 ghost use Rattle.amq_engine.specs.Engine.{Notes, IsCommandAnswer, IsCommandRefusal, IsChronicle, IsBlank, AreSpentAtLast, HasCause, IsFlushRefusal, closed_after, durable_after, fault_refusal, closed_by, receipted, IsReply, prepares, asks_disk, flushed, behind_command, BehindRefused, behind_tick, must_flush, at_clock, is_noted, writes_first};
 ghost use Rattle.amq_engine.specs.Owed.{AreOwedAtOpening};
@@ -56,9 +56,25 @@ impl<D: Disk, C: Chronicle> Model for Engine<D, C> {
 
     ghost coded = { engine_code D.code C.code };
 
-    ghost view = { λ e. record { disk = e.disk; chronicle = e.chronicle; config = e.config; appended = e.tail.appended; durable = e.tail.durable; waiting = length e.tail.buffer.bytes; since = e.tail.buffer.since; file = e.tail.file.id; end = end_of_tail e.tail; highest = e.pool.highest; free = ids_of e.pool.prepared; clock = e.clock; closed = e.closed } };
+    ghost view = { λ e. record {
+      disk = e.disk;
+      chronicle = e.chronicle;
+      config = e.config;
+      appended = e.tail.appended;
+      durable = e.tail.durable;
+      waiting = length e.tail.buffer.bytes;
+      since = e.tail.buffer.since;
+      file = e.tail.file.id;
+      end = end_of_tail e.tail;
+      highest = e.pool.highest;
+      free = ids_of e.pool.prepared;
+      clock = e.clock;
+      closed = e.closed;
+    } };
 
-    ghost invariant = { λ e. IsValid opened (D.past e.disk) (D.moment e.disk) (C.lists e.chronicle) (C.receipt_room e.chronicle) e.config (state_of e.table) e.pool e.tail };
+    ghost invariant = { λ e. IsValid opened (D.past e.disk) (D.moment e.disk)
+        (C.lists e.chronicle) (C.receipt_room e.chronicle) e.config (state_of e.table)
+        e.pool e.tail };
 }
 
 /// Why a journal wasn't opened, with its disk and its chronicle.
@@ -111,37 +127,79 @@ impl<D: Disk, C: Chronicle> Engine<D, C> {
     ) -> Result<(Engine<D, C>, LoadState), OpenFailed<D, C>>
         requires config { IsConfig config }
         requires blank { IfSome (C.lists chronicle) IsBlank }
-        ensures opened { IfOk result (λ e. (e.0.config ≡ config) × (e.0.durable ≡ e.0.appended) × (e.0.waiting ≡ 0) × (e.0.since ≡ None) × (e.0.clock ≡ 0) × (e.0.closed ≡ None)) }
-        ensures base { IfOk result (λ e. IfSome (C.lists e.0.chronicle) (λ l. Told (D.past disk) (HasBase config.user_version l.base))) }
-        ensures state { IfOk result (λ e. IfSome (C.lists e.0.chronicle) (λ l. e.1 ≡ result_of l.base)) }
+        ensures opened { IfOk result (λ e.
+            (e.0.config ≡ config)
+            × (e.0.durable ≡ e.0.appended)
+            × (e.0.waiting ≡ 0)
+            × (e.0.since ≡ None)
+            × (e.0.clock ≡ 0)
+            × (e.0.closed ≡ None)) }
+        ensures base { IfOk result (λ e.
+            IfSome (C.lists e.0.chronicle)
+            (λ l. Told (D.past disk) (HasBase config.user_version l.base))) }
+        ensures state { IfOk result
+            (λ e. IfSome (C.lists e.0.chronicle) (λ l. e.1 ≡ result_of l.base)) }
         ensures tidy { IfOk result (λ e. Told (D.past e.0.disk) IsTidy) }
         ensures loaded { IfOk result (λ e. Told (D.past disk) (IsStateOf config.user_version e.1)) }
-        ensures rolled { IfOk result (λ e. IfSome (C.lists e.0.chronicle) (λ l. AreRolledBack l.base l.steps)) }
-        ensures files { IfOk result (λ e. IfSome (C.lists e.0.chronicle) (λ l. Told (D.past disk) (IsFilled config (rolled_back l.base) (history_of l.steps) e.0.file e.0.end e.0.highest e.0.free))) }
-        ensures content { IfOk result (λ e. IfSome (C.lists e.0.chronicle) (λ l. Told (D.past e.0.disk) (IsJournal config.user_version l.base (history_of l.steps)))) }
+        ensures rolled { IfOk result
+            (λ e. IfSome (C.lists e.0.chronicle) (λ l. AreRolledBack l.base l.steps)) }
+        ensures files { IfOk result (λ e.
+            IfSome (C.lists e.0.chronicle) (λ l.
+            Told (D.past disk) (IsFilled config (rolled_back l.base) (history_of l.steps)
+            e.0.file e.0.end e.0.highest e.0.free))) }
+        ensures content { IfOk result (λ e.
+            IfSome (C.lists e.0.chronicle) (λ l.
+            Told (D.past e.0.disk)
+            (IsJournal config.user_version l.base (history_of l.steps)))) }
         ensures faults { IfOk result (λ e. NoneFailed (D.faults disk) (D.faults e.0.disk)) }
-        ensures opened_files { IfOk result (λ e. HasOpenedFiles config e.0.highest (D.past disk) (D.past e.0.disk)) }
+        ensures opened_files { IfOk result
+            (λ e. HasOpenedFiles config e.0.highest (D.past disk) (D.past e.0.disk)) }
+        ensures journal_files { IfOk result (λ e. IfSome (C.lists e.0.chronicle)
+            (λ l. HasFilesSoFar true config e.0.file e.0.end e.0.highest l
+            (D.past disk) (D.past e.0.disk))) }
         ensures later { IfOk result (λ e. (D.faults disk).0 ≤ (D.faults e.0.disk).0) }
         ensures failed { IfOk result (λ e. (D.faults e.0.disk).1 ≡ (D.faults disk).1) }
-        ensures cause { IfErr result (λ e. HasOpenCause config e.fault (C.lists e.chronicle) (D.past disk) (D.past e.disk) (D.faults disk) (D.faults e.disk)) }
+        ensures cause { IfErr result (λ e.
+            HasOpenCause config e.fault (C.lists e.chronicle) (D.past disk) (D.past e.disk)
+            (D.faults disk) (D.faults e.disk)) }
         ensures failed_later { IfErr result (λ e. (D.faults disk).0 ≤ (D.faults e.disk).0) }
-        ensures failed_legal { IfErr result (λ e. IfSome (C.lists e.chronicle) (λ l. AreLegalOfRefused l.base l.steps config)) }
-        ensures failed_appended { IfErr result (λ e. IfSome (C.lists e.chronicle) (λ l. length (history_of l.steps) ≡ length l.steps)) }
+        ensures failed_legal { IfErr result
+            (λ e. IfSome (C.lists e.chronicle) (λ l. AreLegalOfRefused l.base l.steps config)) }
+        ensures failed_appended { IfErr result (λ e.
+            IfSome (C.lists e.chronicle) (λ l. length (history_of l.steps) ≡ length l.steps)) }
 
         // Each receipt is kept, also where the opening failed behind the first; before it, nothing new is left.
-        ensures failed_safe { IfErr result (λ e. IfSome (C.lists e.chronicle) (IsCrashSafe (D.past e.disk) (D.moment e.disk) config.user_version)) }
-        ensures failed_base { IfErr result (λ e. IfSome (C.lists e.chronicle) (λ l. IsBlank l ⊎ Told (D.past disk) (HasBase config.user_version l.base))) }
-        ensures failed_rollbacks { IfErr result (λ e. IfSome (C.lists e.chronicle) (λ l. IsBlank l ⊎ Told (D.past disk) (AreFirstRollbacks config l))) }
-        ensures failed_spent { IfErr result (λ e. IfSome (C.lists e.chronicle) (λ l. AreSpentAtLast [] l.steps)) }
-        ensures failed_unnoted { IfErr result (λ e. IfSome (C.lists e.chronicle) (λ l. l.receipts ≡ [] → IsBlank l)) }
-        ensures begins { IfOk result (λ e. IfSome (C.lists e.0.chronicle) (λ l. BeginsBySyncs l.receipts (D.past disk) (D.past e.0.disk))) }
-        ensures failed_begins { IfErr result (λ e. IfSome (C.lists e.chronicle) (λ l. BeginsBySyncs l.receipts (D.past disk) (D.past e.disk))) }
-        ensures chronicle { IfOk result (λ e. IfSome (C.lists e.0.chronicle) (IsChronicle (D.past e.0.disk) (D.moment e.0.disk) config e.0.appended e.0.durable)) }
-        ensures ends { IfOk result (λ e. IfSome (C.lists e.0.chronicle) (λ l. e.0.end ≡ end_of (history_of l.steps))) }
+        ensures failed_safe { IfErr result (λ e.
+            IfSome (C.lists e.chronicle)
+            (IsCrashSafe (D.past e.disk) (D.moment e.disk) config.user_version)) }
+        ensures failed_base { IfErr result (λ e.
+            IfSome (C.lists e.chronicle)
+            (λ l. IsBlank l ⊎ Told (D.past disk) (HasBase config.user_version l.base))) }
+        ensures failed_rollbacks { IfErr result (λ e.
+            IfSome (C.lists e.chronicle)
+            (λ l. IsBlank l ⊎ Told (D.past disk) (AreFirstRollbacks config l))) }
+        ensures failed_spent { IfErr result
+            (λ e. IfSome (C.lists e.chronicle) (λ l. AreSpentAtLast [] l.steps)) }
+        ensures failed_files { IfErr result (λ e. IfSome (C.lists e.chronicle)
+            (λ l. HasFailedFiles config (history_of l.steps) (D.past disk) (D.past e.disk))) }
+        ensures failed_unnoted { IfErr result
+            (λ e. IfSome (C.lists e.chronicle) (λ l. l.receipts ≡ [] → IsBlank l)) }
+        ensures begins { IfOk result (λ e.
+            IfSome (C.lists e.0.chronicle)
+            (λ l. BeginsBySyncs l.receipts (D.past disk) (D.past e.0.disk))) }
+        ensures failed_begins { IfErr result (λ e.
+            IfSome (C.lists e.chronicle)
+            (λ l. BeginsBySyncs l.receipts (D.past disk) (D.past e.disk))) }
+        ensures chronicle { IfOk result (λ e.
+            IfSome (C.lists e.0.chronicle) (IsChronicle (D.past e.0.disk) (D.moment e.0.disk)
+            config e.0.appended e.0.durable)) }
+        ensures ends { IfOk result
+            (λ e. IfSome (C.lists e.0.chronicle) (λ l. e.0.end ≡ end_of (history_of l.steps))) }
 
         // Nothing is made durable but for a rollback that doesn't fit, and behind the last one.
         ensures owed { IfOk result (λ e. IfSome (C.lists e.0.chronicle) (AreOwedAtOpening config)) }
-        ensures failed_owed { IfErr result (λ e. IfSome (C.lists e.chronicle) (AreOwedAtOpening config)) }
+        ensures failed_owed { IfErr result
+            (λ e. IfSome (C.lists e.chronicle) (AreOwedAtOpening config)) }
     {
         match start(alloc, &mut disk, &mut chronicle, &config) {
             Ok(
@@ -183,31 +241,75 @@ impl<D: Disk, C: Chronicle> Engine<D, C> {
     /// transactions and the live ids are as they were, and the command can be given again.
     pub fn command(&mut self, seat: u32, number: u64, command: Command) -> Result<Reply, Refusal>
         requires producer { 0 < seat }
-        ensures noted { Notes seat number command result self.new.file self.new.end (receipted (nat_lt self.old.durable self.new.durable) self.old.appended (counted (counted (D.moment self.old.disk))) (C.lists self.old.chronicle)) (C.lists self.new.chronicle) }
+        ensures noted { Notes seat number command result self.new.file self.new.end
+            (receipted (nat_lt self.old.durable self.new.durable) self.old.appended
+            (counted (counted (D.moment self.old.disk))) (C.lists self.old.chronicle))
+            (C.lists self.new.chronicle) }
         ensures reply { IfOk result (IsReply self.old.appended command) }
-        ensures ok { OnOk result (self.new ≡ record (behind_command command self.old) { disk = self.new.disk; chronicle = self.new.chronicle }) }
+        ensures ok { OnOk result (self.new
+            ≡ record (behind_command command self.old)
+            { disk = self.new.disk; chronicle = self.new.chronicle }) }
         ensures err { OnErr result (BehindRefused command self.old self.new) }
         ensures closes { self.new.closed ≡ closed_after result self.old.closed }
         ensures shut { IsSome self.old.closed → self.new ≡ self.old }
         ensures answers { IfErr result IsCommandAnswer }
-        ensures refused { IfErr result (λ refusal. IsCommandRefusal refusal → (self.new ≡ record self.old { chronicle = self.new.chronicle })) }
-        ensures spent { (highest : ℕ) → result ≡ Err (Refusal.FileIdsSpent highest) → (highest ≡ self.old.highest) × (highest ≡ 2 ^ 31 - 1) × (prepares self.old command ≡ true) }
-        ensures numbers { OnOk result (prepares self.old command ≡ true → self.old.highest < 2 ^ 31 - 1) }
-        ensures idle { (asks_disk self.old command ≡ false) ⊎ IsSome self.old.closed → self.new.disk ≡ self.old.disk }
-        ensures unasked { IfSome (C.lists self.old.chronicle) (λ l. IsSome (refusal l.base l.steps self.old.config command) → self.new.disk ≡ self.old.disk) }
-        ensures spared { prepares self.old command ≡ true → 2 ^ 31 - 1 ≤ self.old.highest → self.new.disk ≡ self.old.disk }
-        ensures calls { D.moment self.new.disk ≤ D.moment self.old.disk + (if writes_first self.old command then 2 else 0) + (if prepares self.old command then 4 else 0) }
-        ensures closed { (call : DiskCall) → (result ≡ Err (Refusal.Closed call)) ↔ (self.old.closed ≡ Some call) }
+        ensures refused { IfErr result (λ refusal.
+            IsCommandRefusal refusal
+            → (self.new ≡ record self.old { chronicle = self.new.chronicle })) }
+        ensures spent { (highest : ℕ)
+            → result ≡ Err (Refusal.FileIdsSpent highest)
+            → (highest ≡ self.old.highest)
+            × (highest ≡ 2 ^ 31 - 1)
+            × (prepares self.old command ≡ true) }
+        ensures numbers { OnOk result
+            (prepares self.old command ≡ true → self.old.highest < 2 ^ 31 - 1) }
+        ensures idle { (asks_disk self.old command ≡ false) ⊎ IsSome self.old.closed
+            → self.new.disk ≡ self.old.disk }
+        ensures unasked { IfSome (C.lists self.old.chronicle) (λ l.
+            IsSome (refusal l.base l.steps self.old.config command)
+            → self.new.disk ≡ self.old.disk) }
+        ensures spared { prepares self.old command ≡ true
+            → 2 ^ 31 - 1 ≤ self.old.highest
+            → self.new.disk ≡ self.old.disk }
+        ensures calls { D.moment self.new.disk
+            ≤ D.moment self.old.disk
+            + (if writes_first self.old command then 2 else 0)
+            + (if prepares self.old command then 4 else 0) }
+        ensures closed { (call : DiskCall)
+            → (result ≡ Err (Refusal.Closed call)) ↔ (self.old.closed ≡ Some call) }
         ensures cause { HasCause result (D.faults self.old.disk) (D.faults self.new.disk) }
-        ensures failed { closed_after result None ≡ None → (D.faults self.new.disk).1 ≡ (D.faults self.old.disk).1 }
+        ensures failed { closed_after result None ≡ None
+            → (D.faults self.new.disk).1 ≡ (D.faults self.old.disk).1 }
         ensures later { (D.faults self.old.disk).0 ≤ (D.faults self.new.disk).0 }
-        ensures stands { (first : ℕ) → IfSome (C.lists self.old.chronicle) (StandsFrom self.old.config first self.old.file self.old.end) → IfSome (C.lists self.new.chronicle) (StandsFrom self.new.config first self.new.file self.new.end) }
-        ensures spares { LeavesAllBut (IsCommandFile self.old command) (D.past self.old.disk) (D.past self.new.disk) }
-        ensures files { OnOk result (Told (D.past self.old.disk) (λ o. Told (D.past self.new.disk) (HasFilesMade self.old.config.file_size self.old.highest self.new.highest o))) }
-        ensures failed_files { OnErr result (Told (D.past self.old.disk) (λ o. Told (D.past self.new.disk) (λ s. HasSameFiles o s ⊎ (IsTrue (prepares self.old command) × HasFilesMade self.old.config.file_size self.old.highest (self.old.highest + 1) o s)))) }
+        ensures stands { (first : ℕ)
+            → IfSome (C.lists self.old.chronicle)
+            (StandsFrom self.old.config first self.old.file self.old.end)
+            → IfSome (C.lists self.new.chronicle)
+            (StandsFrom self.new.config first self.new.file self.new.end) }
+        ensures spares { LeavesAllBut (IsCommandFile self.old command) (D.past self.old.disk)
+            (D.past self.new.disk) }
+        ensures files { OnOk result (Told (D.past self.old.disk) (λ o.
+            Told (D.past self.new.disk)
+            (HasFilesMade self.old.config.file_size self.old.highest self.new.highest o))) }
+        ensures failed_files { OnErr result (Told (D.past self.old.disk) (λ o.
+            Told (D.past self.new.disk) (λ s.
+            HasSameFiles o s
+            ⊎ (IsTrue (prepares self.old command)
+            × HasFilesMade self.old.config.file_size self.old.highest
+            (self.old.highest + 1) o s)))) }
+        ensures journal_files { (done : Bool) (first : Option Past)
+            → IfSome (C.lists self.old.chronicle) (λ l. HasFilesSoFar done self.old.config
+            self.old.file self.old.end self.old.highest l first (D.past self.old.disk))
+            → IfSome (C.lists self.new.chronicle) (λ l. HasFilesSoFar (done && is_noted result)
+            self.new.config self.new.file self.new.end self.new.highest l first
+            (D.past self.new.disk)) }
         ensures goes_on { GoesOn (D.past self.old.disk) (D.past self.new.disk) }
-        ensures tidy { is_noted result ≡ true → Told (D.past self.old.disk) IsTidy → Told (D.past self.new.disk) IsTidy }
-        ensures chronicle { IfSome (C.lists self.new.chronicle) (IsChronicle (D.past self.new.disk) (D.moment self.new.disk) self.new.config self.new.appended self.new.durable) }
+        ensures tidy { is_noted result ≡ true
+            → Told (D.past self.old.disk) IsTidy
+            → Told (D.past self.new.disk) IsTidy }
+        ensures chronicle { IfSome (C.lists self.new.chronicle) (IsChronicle
+            (D.past self.new.disk) (D.moment self.new.disk) self.new.config self.new.appended
+            self.new.durable) }
     {
         if let Some(fault) = self.closed {
             return Err(Refusal::Closed { fault });
@@ -264,25 +366,52 @@ impl<D: Disk, C: Chronicle> Engine<D, C> {
     /// all are, it makes no disk call and notes no receipt.
     pub fn flush(&mut self) -> Result<u64, Refusal>
         ensures count { IfOk result (λ count. count ≡ self.old.appended) }
-        ensures ok { OnOk result (self.new ≡ record (flushed self.old) { disk = self.new.disk; chronicle = self.new.chronicle }) }
-        ensures err { OnErr result (self.new ≡ record self.old { disk = self.new.disk; chronicle = self.new.chronicle; closed = closed_after result self.old.closed }) }
+        ensures ok { OnOk result (self.new
+            ≡ record (flushed self.old) { disk = self.new.disk; chronicle = self.new.chronicle }) }
+        ensures err { OnErr result (self.new
+            ≡ record self.old {
+              disk = self.new.disk;
+              chronicle = self.new.chronicle;
+              closed = closed_after result self.old.closed;
+            }) }
         ensures refusals { IfErr result IsFlushRefusal }
-        ensures receipt { C.lists self.new.chronicle ≡ receipted (is_ok result && is_some self.old.since) self.old.appended (D.moment self.new.disk) (C.lists self.old.chronicle) }
-        ensures idle { (self.old.since ≡ None) ⊎ IsSome self.old.closed → self.new.disk ≡ self.old.disk }
+        ensures receipt { C.lists self.new.chronicle
+            ≡ receipted (is_ok result && is_some self.old.since) self.old.appended
+            (D.moment self.new.disk) (C.lists self.old.chronicle) }
+        ensures idle { (self.old.since ≡ None) ⊎ IsSome self.old.closed
+            → self.new.disk ≡ self.old.disk }
         ensures quiet { self.old.closed ≡ None → self.old.since ≡ None → is_ok result ≡ true }
-        ensures calls { D.moment self.new.disk ≤ D.moment self.old.disk + (if is_some self.old.since then 2 else 0) }
-        ensures closed { (call : DiskCall) → (result ≡ Err (Refusal.Closed call)) ↔ (self.old.closed ≡ Some call) }
+        ensures calls { D.moment self.new.disk
+            ≤ D.moment self.old.disk + (if is_some self.old.since then 2 else 0) }
+        ensures closed { (call : DiskCall)
+            → (result ≡ Err (Refusal.Closed call)) ↔ (self.old.closed ≡ Some call) }
         ensures cause { HasCause result (D.faults self.old.disk) (D.faults self.new.disk) }
-        ensures failed { closed_after result None ≡ None → (D.faults self.new.disk).1 ≡ (D.faults self.old.disk).1 }
+        ensures failed { closed_after result None ≡ None
+            → (D.faults self.new.disk).1 ≡ (D.faults self.old.disk).1 }
         ensures later { (D.faults self.old.disk).0 ≤ (D.faults self.new.disk).0 }
-        ensures stands { (first : ℕ) → IfSome (C.lists self.old.chronicle) (StandsFrom self.old.config first self.old.file self.old.end) → IfSome (C.lists self.new.chronicle) (StandsFrom self.new.config first self.new.file self.new.end) }
-        ensures spares { LeavesAllBut (HasId self.old.file) (D.past self.old.disk) (D.past self.new.disk) }
-        ensures files { Told (D.past self.old.disk) (λ o. Told (D.past self.new.disk) (HasSameFiles o)) }
+        ensures stands { (first : ℕ)
+            → IfSome (C.lists self.old.chronicle)
+            (StandsFrom self.old.config first self.old.file self.old.end)
+            → IfSome (C.lists self.new.chronicle)
+            (StandsFrom self.new.config first self.new.file self.new.end) }
+        ensures spares { LeavesAllBut (HasId self.old.file) (D.past self.old.disk)
+            (D.past self.new.disk) }
+        ensures files { Told (D.past self.old.disk)
+            (λ o. Told (D.past self.new.disk) (HasSameFiles o)) }
+        ensures journal_files { (done : Bool) (first : Option Past)
+            → IfSome (C.lists self.old.chronicle) (λ l. HasFilesSoFar done self.old.config
+            self.old.file self.old.end self.old.highest l first (D.past self.old.disk))
+            → IfSome (C.lists self.new.chronicle) (λ l. HasFilesSoFar done self.new.config
+            self.new.file self.new.end self.new.highest l first (D.past self.new.disk)) }
         ensures goes_on { GoesOn (D.past self.old.disk) (D.past self.new.disk) }
-        ensures tidy { OnOk result (Told (D.past self.old.disk) IsTidy → Told (D.past self.new.disk) IsTidy) }
-        ensures chronicle { IfSome (C.lists self.new.chronicle) (IsChronicle (D.past self.new.disk) (D.moment self.new.disk) self.new.config self.new.appended self.new.durable) }
+        ensures tidy { OnOk result
+            (Told (D.past self.old.disk) IsTidy → Told (D.past self.new.disk) IsTidy) }
+        ensures chronicle { IfSome (C.lists self.new.chronicle) (IsChronicle
+            (D.past self.new.disk) (D.moment self.new.disk) self.new.config self.new.appended
+            self.new.durable) }
         ensures waits { IsSome self.old.since → self.old.durable < self.old.appended }
-        ensures told { IfSome (C.lists self.old.chronicle) (IsChronicle (D.past self.old.disk) (D.moment self.old.disk) self.old.config self.old.appended self.old.durable) }
+        ensures told { IfSome (C.lists self.old.chronicle) (IsChronicle (D.past self.old.disk)
+            (D.moment self.old.disk) self.old.config self.old.appended self.old.durable) }
     {
         if let Some(fault) = self.closed {
             return Err(Refusal::Closed { fault });
@@ -297,24 +426,55 @@ impl<D: Disk, C: Chronicle> Engine<D, C> {
     /// then at least the buffer's timeout old. Answers how many appends are durable.
     pub fn tick(&mut self, now: u64) -> Result<u64, Refusal>
         ensures count { IfOk result (λ count. count ≡ self.new.durable) }
-        ensures ok { OnOk result (self.new ≡ record (behind_tick now self.old) { disk = self.new.disk; chronicle = self.new.chronicle }) }
-        ensures err { OnErr result (self.new ≡ record self.old { disk = self.new.disk; chronicle = self.new.chronicle; clock = self.new.clock; closed = closed_after result self.old.closed }) }
-        ensures clock { self.new.clock ≡ (if is_some self.old.closed then self.old.clock else max self.old.clock now) }
+        ensures ok { OnOk result (self.new
+            ≡ record (behind_tick now self.old)
+            { disk = self.new.disk; chronicle = self.new.chronicle }) }
+        ensures err { OnErr result (self.new
+            ≡ record self.old {
+              disk = self.new.disk;
+              chronicle = self.new.chronicle;
+              clock = self.new.clock;
+              closed = closed_after result self.old.closed;
+            }) }
+        ensures clock { self.new.clock
+            ≡ (if is_some self.old.closed then self.old.clock else max self.old.clock now) }
         ensures refusals { IfErr result IsFlushRefusal }
-        ensures receipt { C.lists self.new.chronicle ≡ receipted (is_ok result && must_flush (at_clock now self.old)) self.old.appended (D.moment self.new.disk) (C.lists self.old.chronicle) }
-        ensures idle { (must_flush (at_clock now self.old) ≡ false) ⊎ IsSome self.old.closed → self.new.disk ≡ self.old.disk }
-        ensures quiet { self.old.closed ≡ None → must_flush (at_clock now self.old) ≡ false → is_ok result ≡ true }
-        ensures calls { D.moment self.new.disk ≤ D.moment self.old.disk + (if is_some self.old.since then 2 else 0) }
-        ensures closed { (call : DiskCall) → (result ≡ Err (Refusal.Closed call)) ↔ (self.old.closed ≡ Some call) }
+        ensures receipt { C.lists self.new.chronicle
+            ≡ receipted (is_ok result && must_flush (at_clock now self.old)) self.old.appended
+            (D.moment self.new.disk) (C.lists self.old.chronicle) }
+        ensures idle { (must_flush (at_clock now self.old) ≡ false) ⊎ IsSome self.old.closed
+            → self.new.disk ≡ self.old.disk }
+        ensures quiet { self.old.closed ≡ None
+            → must_flush (at_clock now self.old) ≡ false
+            → is_ok result ≡ true }
+        ensures calls { D.moment self.new.disk
+            ≤ D.moment self.old.disk + (if is_some self.old.since then 2 else 0) }
+        ensures closed { (call : DiskCall)
+            → (result ≡ Err (Refusal.Closed call)) ↔ (self.old.closed ≡ Some call) }
         ensures cause { HasCause result (D.faults self.old.disk) (D.faults self.new.disk) }
-        ensures failed { closed_after result None ≡ None → (D.faults self.new.disk).1 ≡ (D.faults self.old.disk).1 }
+        ensures failed { closed_after result None ≡ None
+            → (D.faults self.new.disk).1 ≡ (D.faults self.old.disk).1 }
         ensures later { (D.faults self.old.disk).0 ≤ (D.faults self.new.disk).0 }
-        ensures stands { (first : ℕ) → IfSome (C.lists self.old.chronicle) (StandsFrom self.old.config first self.old.file self.old.end) → IfSome (C.lists self.new.chronicle) (StandsFrom self.new.config first self.new.file self.new.end) }
-        ensures spares { LeavesAllBut (HasId self.old.file) (D.past self.old.disk) (D.past self.new.disk) }
-        ensures files { Told (D.past self.old.disk) (λ o. Told (D.past self.new.disk) (HasSameFiles o)) }
+        ensures stands { (first : ℕ)
+            → IfSome (C.lists self.old.chronicle)
+            (StandsFrom self.old.config first self.old.file self.old.end)
+            → IfSome (C.lists self.new.chronicle)
+            (StandsFrom self.new.config first self.new.file self.new.end) }
+        ensures spares { LeavesAllBut (HasId self.old.file) (D.past self.old.disk)
+            (D.past self.new.disk) }
+        ensures files { Told (D.past self.old.disk)
+            (λ o. Told (D.past self.new.disk) (HasSameFiles o)) }
+        ensures journal_files { (done : Bool) (first : Option Past)
+            → IfSome (C.lists self.old.chronicle) (λ l. HasFilesSoFar done self.old.config
+            self.old.file self.old.end self.old.highest l first (D.past self.old.disk))
+            → IfSome (C.lists self.new.chronicle) (λ l. HasFilesSoFar done self.new.config
+            self.new.file self.new.end self.new.highest l first (D.past self.new.disk)) }
         ensures goes_on { GoesOn (D.past self.old.disk) (D.past self.new.disk) }
-        ensures tidy { OnOk result (Told (D.past self.old.disk) IsTidy → Told (D.past self.new.disk) IsTidy) }
-        ensures chronicle { IfSome (C.lists self.new.chronicle) (IsChronicle (D.past self.new.disk) (D.moment self.new.disk) self.new.config self.new.appended self.new.durable) }
+        ensures tidy { OnOk result
+            (Told (D.past self.old.disk) IsTidy → Told (D.past self.new.disk) IsTidy) }
+        ensures chronicle { IfSome (C.lists self.new.chronicle) (IsChronicle
+            (D.past self.new.disk) (D.moment self.new.disk) self.new.config self.new.appended
+            self.new.durable) }
     {
         if let Some(fault) = self.closed {
             return Err(Refusal::Closed { fault });
@@ -330,22 +490,37 @@ impl<D: Disk, C: Chronicle> Engine<D, C> {
     pub fn close(mut self) -> (D, C, Result<u64, Refusal>)
         ensures count { IfOk result.2 (λ count. count ≡ self.appended) }
         ensures refusals { IfErr result.2 IsFlushRefusal }
-        ensures receipt { C.lists result.1 ≡ receipted (is_ok result.2 && is_some self.since) self.appended (D.moment result.0) (C.lists self.chronicle) }
+        ensures receipt { C.lists result.1
+            ≡ receipted (is_ok result.2 && is_some self.since) self.appended (D.moment result.0)
+            (C.lists self.chronicle) }
         ensures idle { (self.since ≡ None) ⊎ IsSome self.closed → result.0 ≡ self.disk }
         ensures quiet { self.closed ≡ None → self.since ≡ None → is_ok result.2 ≡ true }
-        ensures calls { D.moment result.0 ≤ D.moment self.disk + (if is_some self.since then 2 else 0) }
-        ensures closed { (call : DiskCall) → (result.2 ≡ Err (Refusal.Closed call)) ↔ (self.closed ≡ Some call) }
+        ensures calls { D.moment result.0
+            ≤ D.moment self.disk + (if is_some self.since then 2 else 0) }
+        ensures closed { (call : DiskCall)
+            → (result.2 ≡ Err (Refusal.Closed call)) ↔ (self.closed ≡ Some call) }
         ensures cause { HasCause result.2 (D.faults self.disk) (D.faults result.0) }
-        ensures failed { closed_after result.2 None ≡ None → (D.faults result.0).1 ≡ (D.faults self.disk).1 }
+        ensures failed { closed_after result.2 None ≡ None
+            → (D.faults result.0).1 ≡ (D.faults self.disk).1 }
         ensures later { (D.faults self.disk).0 ≤ (D.faults result.0).0 }
         ensures spares { LeavesAllBut (HasId self.file) (D.past self.disk) (D.past result.0) }
         ensures files { Told (D.past self.disk) (λ o. Told (D.past result.0) (HasSameFiles o)) }
+        ensures journal_files { (done : Bool) (first : Option Past)
+            → IfSome (C.lists self.chronicle) (λ l. HasFilesSoFar done self.config
+            self.file self.end self.highest l first (D.past self.disk))
+            → IfSome (C.lists result.1) (λ l. HasFilesOf done self.config (history_of l.steps) first
+            (D.past result.0)) }
         ensures goes_on { GoesOn (D.past self.disk) (D.past result.0) }
-        ensures tidy { OnOk result.2 (Told (D.past self.disk) IsTidy → Told (D.past result.0) IsTidy) }
-        ensures content { OnOk result.2 (IfSome (C.lists result.1) (λ l. Told (D.past result.0) (IsJournal self.config.user_version l.base (history_of l.steps)))) }
-        ensures chronicle { IfSome (C.lists result.1) (IsChronicle (D.past result.0) (D.moment result.0) self.config self.appended (durable_after result.2 self.durable)) }
+        ensures tidy { OnOk result.2
+            (Told (D.past self.disk) IsTidy → Told (D.past result.0) IsTidy) }
+        ensures content { OnOk result.2 (IfSome (C.lists result.1) (λ l.
+            Told (D.past result.0)
+            (IsJournal self.config.user_version l.base (history_of l.steps)))) }
+        ensures chronicle { IfSome (C.lists result.1) (IsChronicle (D.past result.0)
+            (D.moment result.0) self.config self.appended (durable_after result.2 self.durable)) }
         ensures waits { IsSome self.since → self.durable < self.appended }
-        ensures told { IfSome (C.lists self.chronicle) (IsChronicle (D.past self.disk) (D.moment self.disk) self.config self.appended self.durable) }
+        ensures told { IfSome (C.lists self.chronicle) (IsChronicle (D.past self.disk)
+            (D.moment self.disk) self.config self.appended self.durable) }
     {
         let outcome = self.flush();
         let Engine {

@@ -42,17 +42,26 @@ pub fn passes(file_size: u64, end: u64, rec: &Option<Record>) -> bool
 /// Prepares one file, in four disk calls.
 pub fn prepare<D: Disk>(disk: &mut D, pool: &mut Pool) -> Result<(), DiskFault>
     requires number { pool.old.highest < 2 ^ 31 - 1 }
-    ensures valid { (stage : Stage) (lists : Option Lists) (room : ℕ) (config : Config) (table : TxState) (tail : Tail)
-        → IsValid stage (D.past disk.old) (D.moment disk.old) lists room config table pool.old tail
-        → IsValid stage (D.past disk.new) (D.moment disk.new) lists room config table pool.new tail }
+    ensures valid { (stage : Stage) (lists : Option Lists) (room : ℕ) (config : Config)
+        (table : TxState) (tail : Tail)
+        → IsValid stage (D.past disk.old) (D.moment disk.old) lists room config table pool.old
+        tail
+        → IsValid stage (D.past disk.new) (D.moment disk.new) lists room config table pool.new
+        tail }
     ensures prepared { OnOk result (pool.new ≡ with_next pool.old) }
     ensures unchanged { OnErr result (pool.new ≡ pool.old) }
     ensures cause { HasFault result (D.faults disk.old) (D.faults disk.new) }
     ensures calls { D.moment disk.new ≤ D.moment disk.old + 4 }
     ensures later { D.moment disk.old ≤ D.moment disk.new }
     ensures goes_on { GoesOn (D.past disk.old) (D.past disk.new) }
-    ensures works { OnOk result (Worked true (SparesAllBut (IsPreparing (pool.old.highest + 1) (pool.old.highest + 1))) pool.old.config.file_size pool.old.highest (pool.old.highest + 1) (D.past disk.old) (D.past disk.new)) }
-    ensures failed_works { OnErr result (Worked false (SparesAllBut (IsPreparing (pool.old.highest + 1) (pool.old.highest + 1))) pool.old.config.file_size pool.old.highest (pool.old.highest + 1) (D.past disk.old) (D.past disk.new)) }
+    ensures works { OnOk result (Worked true
+        (SparesAllBut (IsPreparing (pool.old.highest + 1) (pool.old.highest + 1)))
+        pool.old.config.file_size pool.old.highest (pool.old.highest + 1) (D.past disk.old)
+        (D.past disk.new)) }
+    ensures failed_works { OnErr result (Worked false
+        (SparesAllBut (IsPreparing (pool.old.highest + 1) (pool.old.highest + 1)))
+        pool.old.config.file_size pool.old.highest (pool.old.highest + 1) (D.past disk.old)
+        (D.past disk.new)) }
     ensures tidy { OnOk result (Told (D.past disk.old) IsTidy → Told (D.past disk.new) IsTidy) }
 {
     match pool.prepare_step(disk) {
@@ -77,22 +86,45 @@ pub fn go_on<D: Disk, C: Chronicle>(
     requires start { 16 ≤ tail.old.end }
     requires number { pool.old.prepared ≡ [] → pool.old.highest < 2 ^ 31 - 1 }
     ensures valid { (stage : Stage) (config : Config) (table : TxState)
-        → IsValid stage (D.past disk.old) (D.moment disk.old) (C.lists chronicle.old) (C.receipt_room chronicle.old) config table pool.old tail.old
-        → IsValid stage (D.past disk.new) (D.moment disk.new) (C.lists chronicle.new) (C.receipt_room chronicle.new) config table pool.new tail.new }
+        → IsValid stage (D.past disk.old) (D.moment disk.old) (C.lists chronicle.old)
+        (C.receipt_room chronicle.old) config table pool.old tail.old
+        → IsValid stage (D.past disk.new) (D.moment disk.new) (C.lists chronicle.new)
+        (C.receipt_room chronicle.new) config table pool.new tail.new }
     ensures ok { OnOk result (tail.new ≡ gone_on (next_file pool.old) (written_out tail.old)) }
     ensures pool { OnOk result (pool.new ≡ without_next pool.old) }
-    ensures err { OnErr result (Waits tail.old (C.lists chronicle.old) tail.new (C.lists chronicle.new) ⊎ ((pool.old.prepared ≡ []) × Wrote (D.moment disk.old) tail.old (C.lists chronicle.old) tail.new (C.lists chronicle.new))) }
+    ensures err { OnErr result (Waits tail.old (C.lists chronicle.old) tail.new
+        (C.lists chronicle.new)
+        ⊎ ((pool.old.prepared ≡ [])
+        × Wrote (D.moment disk.old) tail.old (C.lists chronicle.old) tail.new
+        (C.lists chronicle.new))) }
     ensures same_pool { OnErr result (pool.new ≡ pool.old) }
-    ensures receipt { OnOk result (C.lists chronicle.new ≡ receipted (is_some tail.old.buffer.since) tail.old.appended (counted (counted (D.moment disk.old))) (C.lists chronicle.old)) }
+    ensures receipt { OnOk result (C.lists chronicle.new
+        ≡ receipted (is_some tail.old.buffer.since) tail.old.appended
+        (counted (counted (D.moment disk.old))) (C.lists chronicle.old)) }
     ensures steps { C.step_room chronicle.new ≡ C.step_room chronicle.old }
     ensures room { C.receipt_room chronicle.old ≤ C.receipt_room chronicle.new + 1 }
-    ensures idle { tail.old.buffer.since ≡ None → (pool.old.prepared ≡ [] → ⊥) → disk.new ≡ disk.old }
+    ensures idle { tail.old.buffer.since ≡ None
+        → (pool.old.prepared ≡ [] → ⊥)
+        → disk.new ≡ disk.old }
     ensures cause { HasFault result (D.faults disk.old) (D.faults disk.new) }
-    ensures calls { D.moment disk.new ≤ D.moment disk.old + (if is_some tail.old.buffer.since then 2 else 0) + (if is_nil pool.old.prepared then 4 else 0) }
+    ensures calls { D.moment disk.new
+        ≤ D.moment disk.old
+        + (if is_some tail.old.buffer.since then 2 else 0)
+        + (if is_nil pool.old.prepared then 4 else 0) }
     ensures later { D.moment disk.old ≤ D.moment disk.new }
     ensures goes_on { GoesOn (D.past disk.old) (D.past disk.new) }
-    ensures works { OnOk result (Worked true (SparesAllBut (IsUsedOrNew tail.old.file.name (pool.old.highest + 1) (if is_nil pool.old.prepared then pool.old.highest + 1 else pool.old.highest))) pool.old.config.file_size pool.old.highest (if is_nil pool.old.prepared then pool.old.highest + 1 else pool.old.highest) (D.past disk.old) (D.past disk.new)) }
-    ensures failed_works { OnErr result (Worked false (SparesAllBut (IsUsedOrNew tail.old.file.name (pool.old.highest + 1) (if is_nil pool.old.prepared then pool.old.highest + 1 else pool.old.highest))) pool.old.config.file_size pool.old.highest (if is_nil pool.old.prepared then pool.old.highest + 1 else pool.old.highest) (D.past disk.old) (D.past disk.new)) }
+    ensures works { OnOk result (Worked true
+        (SparesAllBut (IsUsedOrNew tail.old.file.name (pool.old.highest + 1)
+        (if is_nil pool.old.prepared then pool.old.highest + 1 else pool.old.highest)))
+        pool.old.config.file_size pool.old.highest
+        (if is_nil pool.old.prepared then pool.old.highest + 1 else pool.old.highest)
+        (D.past disk.old) (D.past disk.new)) }
+    ensures failed_works { OnErr result (Worked false
+        (SparesAllBut (IsUsedOrNew tail.old.file.name (pool.old.highest + 1)
+        (if is_nil pool.old.prepared then pool.old.highest + 1 else pool.old.highest)))
+        pool.old.config.file_size pool.old.highest
+        (if is_nil pool.old.prepared then pool.old.highest + 1 else pool.old.highest)
+        (D.past disk.old) (D.past disk.new)) }
     ensures tidy { OnOk result (Told (D.past disk.old) IsTidy → Told (D.past disk.new) IsTidy) }
 {
     write_out(disk, chronicle, tail)?;
@@ -126,22 +158,54 @@ pub fn ready<D: Disk, C: Chronicle>(
     requires start { 16 ≤ tail.old.end }
     requires number { moves ≡ true → pool.old.prepared ≡ [] → pool.old.highest < 2 ^ 31 - 1 }
     ensures valid { (stage : Stage) (config : Config) (table : TxState)
-        → IsValid stage (D.past disk.old) (D.moment disk.old) (C.lists chronicle.old) (C.receipt_room chronicle.old) config table pool.old tail.old
-        → IsValid stage (D.past disk.new) (D.moment disk.new) (C.lists chronicle.new) (C.receipt_room chronicle.new) config table pool.new tail.new }
-    ensures ok { OnOk result (tail.new ≡ readied moves (flushes tail.old.buffer.capacity (length tail.old.buffer.bytes) command.now) pool.old tail.old) }
+        → IsValid stage (D.past disk.old) (D.moment disk.old) (C.lists chronicle.old)
+        (C.receipt_room chronicle.old) config table pool.old tail.old
+        → IsValid stage (D.past disk.new) (D.moment disk.new) (C.lists chronicle.new)
+        (C.receipt_room chronicle.new) config table pool.new tail.new }
+    ensures ok { OnOk result (tail.new
+        ≡ readied moves
+        (flushes tail.old.buffer.capacity (length tail.old.buffer.bytes) command.now)
+        pool.old tail.old) }
     ensures pool { OnOk result (pool.new ≡ pool_readied moves pool.old) }
-    ensures err { OnErr result (Waits tail.old (C.lists chronicle.old) tail.new (C.lists chronicle.new) ⊎ ((moves ≡ true) × (pool.old.prepared ≡ []) × Wrote (D.moment disk.old) tail.old (C.lists chronicle.old) tail.new (C.lists chronicle.new))) }
+    ensures err { OnErr result (Waits tail.old (C.lists chronicle.old) tail.new
+        (C.lists chronicle.new)
+        ⊎ ((moves ≡ true)
+        × (pool.old.prepared ≡ [])
+        × Wrote (D.moment disk.old) tail.old (C.lists chronicle.old) tail.new
+        (C.lists chronicle.new))) }
     ensures same_pool { OnErr result (pool.new ≡ pool.old) }
-    ensures receipt { OnOk result (C.lists chronicle.new ≡ receipted ((moves || flushes tail.old.buffer.capacity (length tail.old.buffer.bytes) command.now) && is_some tail.old.buffer.since) tail.old.appended (counted (counted (D.moment disk.old))) (C.lists chronicle.old)) }
+    ensures receipt { OnOk result (C.lists chronicle.new
+        ≡ receipted
+        ((moves
+        || flushes tail.old.buffer.capacity (length tail.old.buffer.bytes)
+        command.now)
+        && is_some tail.old.buffer.since) tail.old.appended
+        (counted (counted (D.moment disk.old))) (C.lists chronicle.old)) }
     ensures steps { C.step_room chronicle.new ≡ C.step_room chronicle.old }
     ensures room { C.receipt_room chronicle.old ≤ C.receipt_room chronicle.new + 1 }
-    ensures idle { (moves || flushes tail.old.buffer.capacity (length tail.old.buffer.bytes) command.now) && is_some tail.old.buffer.since ≡ false → moves && is_nil pool.old.prepared ≡ false → disk.new ≡ disk.old }
+    ensures idle { (moves || flushes tail.old.buffer.capacity (length tail.old.buffer.bytes)
+        command.now) && is_some tail.old.buffer.since ≡ false
+        → moves && is_nil pool.old.prepared ≡ false
+        → disk.new ≡ disk.old }
     ensures cause { HasFault result (D.faults disk.old) (D.faults disk.new) }
-    ensures calls { D.moment disk.new ≤ D.moment disk.old + (if (moves || flushes tail.old.buffer.capacity (length tail.old.buffer.bytes) command.now) && is_some tail.old.buffer.since then 2 else 0) + (if moves && is_nil pool.old.prepared then 4 else 0) }
+    ensures calls { D.moment disk.new ≤ D.moment disk.old
+        + (if (moves || flushes tail.old.buffer.capacity (length tail.old.buffer.bytes)
+        command.now) && is_some tail.old.buffer.since then 2 else 0)
+        + (if moves && is_nil pool.old.prepared then 4 else 0) }
     ensures later { D.moment disk.old ≤ D.moment disk.new }
     ensures goes_on { GoesOn (D.past disk.old) (D.past disk.new) }
-    ensures works { OnOk result (Worked true (SparesAllBut (IsUsedOrNew tail.old.file.name (pool.old.highest + 1) (if moves && is_nil pool.old.prepared then pool.old.highest + 1 else pool.old.highest))) pool.old.config.file_size pool.old.highest (if moves && is_nil pool.old.prepared then pool.old.highest + 1 else pool.old.highest) (D.past disk.old) (D.past disk.new)) }
-    ensures failed_works { OnErr result (Worked false (SparesAllBut (IsUsedOrNew tail.old.file.name (pool.old.highest + 1) (if moves && is_nil pool.old.prepared then pool.old.highest + 1 else pool.old.highest))) pool.old.config.file_size pool.old.highest (if moves && is_nil pool.old.prepared then pool.old.highest + 1 else pool.old.highest) (D.past disk.old) (D.past disk.new)) }
+    ensures works { OnOk result (Worked true
+        (SparesAllBut (IsUsedOrNew tail.old.file.name (pool.old.highest + 1)
+        (if moves && is_nil pool.old.prepared then pool.old.highest + 1 else pool.old.highest)))
+        pool.old.config.file_size pool.old.highest
+        (if moves && is_nil pool.old.prepared then pool.old.highest + 1 else pool.old.highest)
+        (D.past disk.old) (D.past disk.new)) }
+    ensures failed_works { OnErr result (Worked false
+        (SparesAllBut (IsUsedOrNew tail.old.file.name (pool.old.highest + 1)
+        (if moves && is_nil pool.old.prepared then pool.old.highest + 1 else pool.old.highest)))
+        pool.old.config.file_size pool.old.highest
+        (if moves && is_nil pool.old.prepared then pool.old.highest + 1 else pool.old.highest)
+        (D.past disk.old) (D.past disk.new)) }
     ensures tidy { OnOk result (Told (D.past disk.old) IsTidy → Told (D.past disk.new) IsTidy) }
 {
     if moves {
@@ -173,15 +237,24 @@ pub fn fill_pool<D: Disk>(
     min_files: u32,
 ) -> Result<(), DiskFault>
     requires numbers { pool.old.highest ≤ 2 ^ 31 - 1 }
-    ensures valid { (stage : Stage) (lists : Option Lists) (room : ℕ) (config : Config) (table : TxState) (tail : Tail)
-        → IsValid stage (D.past disk.old) (D.moment disk.old) lists room config table pool.old tail
-        → IsValid stage (D.past disk.new) (D.moment disk.new) lists room config table pool.new tail }
-    ensures filled { OnOk result (pool.new ≡ with_files (min (min_files - files) (2 ^ 31 - 1 - pool.old.highest)) pool.old) }
+    ensures valid { (stage : Stage) (lists : Option Lists) (room : ℕ) (config : Config)
+        (table : TxState) (tail : Tail)
+        → IsValid stage (D.past disk.old) (D.moment disk.old) lists room config table pool.old
+        tail
+        → IsValid stage (D.past disk.new) (D.moment disk.new) lists room config table pool.new
+        tail }
+    ensures filled { OnOk result (pool.new
+        ≡ with_files (min (min_files - files) (2 ^ 31 - 1 - pool.old.highest)) pool.old) }
     ensures cause { HasFault result (D.faults disk.old) (D.faults disk.new) }
     ensures later { D.moment disk.old ≤ D.moment disk.new }
     ensures goes_on { GoesOn (D.past disk.old) (D.past disk.new) }
-    ensures works { OnOk result (WorkedTo true pool.old.config.file_size (pool.old.highest + 1) pool.old.highest pool.new.highest (D.past disk.old) (D.past disk.new)) }
-    ensures failed_works { OnErr result (WorkedTo false pool.old.config.file_size (pool.old.highest + 1) pool.old.highest pool.new.highest (D.past disk.old) (D.past disk.new)) }
+    ensures works { OnOk result (WorkedTo true pool.old.config.file_size (pool.old.highest + 1)
+        pool.old.highest pool.new.highest (D.past disk.old) (D.past disk.new)) }
+    ensures failed_works { OnErr result (WorkedTo false pool.old.config.file_size
+        (pool.old.highest + 1) pool.old.highest pool.new.highest (D.past disk.old)
+        (D.past disk.new)) }
+    ensures more { pool.old.highest ≤ pool.new.highest }
+    ensures few { OnErr result (pool.new.highest < pool.old.highest + (min_files - files)) }
     ensures tidy { OnOk result (Told (D.past disk.old) IsTidy → Told (D.past disk.new) IsTidy) }
 {
     let missing = u64::from(min_files).saturating_sub(files);

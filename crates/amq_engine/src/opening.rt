@@ -1,5 +1,5 @@
 //! Loading the directory of a journal, and beginning a new file in it.
-ghost use Rattle.std.specs.Prelude.{◌≡◌, ◌⊎◌, ◌+◌, ◌-◌, ◌^◌, ◌<◌, ◌≤◌, ℕ, List, Option, [], length, None, map, filter, not, option_map, IfSome, IfOk, IfErr, OnOk, OnErr};
+ghost use Rattle.std.specs.Prelude.{◌≡◌, ◌⊎◌, ◌+◌, ◌-◌, ◌^◌, ◌<◌, ◌≤◌, ℕ, false, List, Option, [], length, None, map, filter, not, option_map, IfSome, IfOk, IfErr, OnOk, OnErr};
 ghost use Rattle.amq_model.specs.declared.record.Placed.{Placed};
 ghost use Rattle.amq_model.specs.Configs.{IsConfig};
 ghost use Rattle.amq_model.specs.Effect.{result_of};
@@ -15,7 +15,7 @@ ghost use Rattle.amq_pool.specs.Pools.{IsPool, numbered_file, Making, Made};
 ghost use Rattle.amq_loader.specs.Loads.{IsLoad, IsLoadOf, IsStateOf, IsTidy};
 ghost use Rattle.amq_loader.specs.Bases.{IsBase};
 ghost use Rattle.amq_engine.specs.Directory.{Stands};
-ghost use Rattle.amq_engine.specs.DataFiles.{Works, IsRenewed, SyncsAllBut};
+ghost use Rattle.amq_engine.specs.DataFiles.{Works, Worked, IsRenewed, SyncsAllBut, HasFailedFiles};
 ghost use Rattle.amq_engine.specs.Lists.{Lists, with_base, with_receipt};
 ghost use Rattle.amq_engine.specs.Receipts.{IsCrashSafe, GoesOn, AreOpeningCalls, AreFirstOpeningCalls, BeginsBySyncs};
 ghost use Rattle.amq_engine.specs.Engine.{rolling, IsValid, IsBlank, Holds, open_fault};
@@ -75,13 +75,18 @@ fn load_fault_of(fault: LoadFault) -> OpenFault
 fn load_durably<D: Disk>(alloc: Global, disk: &mut D, config: &Config) -> Result<Loaded, OpenFault>
     ensures every { IfOk result (IsLoad config.now.user_version) }
     ensures told { IfOk result (λ l. Told (D.past disk.old) (IsLoadOf config.now.user_version l)) }
-    ensures base { IfOk result (λ l. IsBase (D.past disk.new) config.now.user_version l.highest_file l.base) }
+    ensures base { IfOk result
+        (λ l. IsBase (D.past disk.new) config.now.user_version l.highest_file l.base) }
     ensures unspent { IfOk result (λ l. l.highest_file < 2 ^ 31 - 1) }
     ensures left { IfOk result (λ l. Told (D.past disk.new) (AreLeft l.leftovers)) }
     ensures calls { OnOk result (Makes AreOpeningCalls (D.past disk.old) (D.past disk.new)) }
     ensures first_calls { Makes AreFirstOpeningCalls (D.past disk.old) (D.past disk.new) }
     ensures crash { Leaves Syncs Syncs (D.past disk.old) (D.past disk.new) }
-    ensures cause { IfErr result (λ fault. (lists : Option Lists) → IfSome lists IsBlank → HasOpenCause config.now fault lists (D.past disk.old) (D.past disk.new) (D.faults disk.old) (D.faults disk.new)) }
+    ensures cause { IfErr result (λ fault.
+        (lists : Option Lists)
+        → IfSome lists IsBlank
+        → HasOpenCause config.now fault lists (D.past disk.old) (D.past disk.new)
+        (D.faults disk.old) (D.faults disk.new)) }
     ensures faults { OnOk result (NoneFailed (D.faults disk.old) (D.faults disk.new)) }
     ensures later { (D.faults disk.old).0 ≤ (D.faults disk.new).0 }
 {
@@ -102,7 +107,8 @@ fn load_durably<D: Disk>(alloc: Global, disk: &mut D, config: &Config) -> Result
 
 /// The transactions that are open and not prepared, by number.
 fn unprepared(alloc: Global, open_txs: &[OpenTx]) -> Result<Vec<u64>, NoMemory>
-    ensures { IfOk result (λ txs. txs.items ≡ map (λ o. o.tx) (filter (λ o. not o.prepared) open_txs.now)) }
+    ensures { IfOk result
+        (λ txs. txs.items ≡ map (λ o. o.tx) (filter (λ o. not o.prepared) open_txs.now)) }
 {
     let mut txs = Vec::new(alloc);
     for open in open_txs {
@@ -117,7 +123,8 @@ fn unprepared(alloc: Global, open_txs: &[OpenTx]) -> Result<Vec<u64>, NoMemory>
 fn table_of(alloc: Global, loaded: &mut Loaded) -> Result<TxTable, NoMemory>
     requires { (wanted : ℕ) × IsLoad wanted loaded.old }
     ensures follows { IfOk result (λ t. Follows (state_of t) loaded.old.base []) }
-    ensures rest { loaded.new ≡ record loaded.old { live = loaded.new.live; open_txs = loaded.new.open_txs } }
+    ensures rest { loaded.new
+        ≡ record loaded.old { live = loaded.new.live; open_txs = loaded.new.open_txs } }
 {
     let live = mem::replace(&mut loaded.live, Items::of(Vec::new(alloc)));
     let open_txs = mem::replace(&mut loaded.open_txs, Items::of(Vec::new(alloc)));
@@ -131,7 +138,9 @@ fn table_of(alloc: Global, loaded: &mut Loaded) -> Result<TxTable, NoMemory>
 
 /// Notes the base, and the receipt of nothing at this moment.
 fn note<C: Chronicle>(chronicle: &mut C, base: Items<Placed>, moment: u64) -> Result<(), NoMemory>
-    ensures ok { OnOk result (C.lists chronicle.new ≡ option_map (with_receipt 0 moment) (option_map (with_base base) (C.lists chronicle.old))) }
+    ensures ok { OnOk result (C.lists chronicle.new
+        ≡ option_map (with_receipt 0 moment)
+        (option_map (with_base base) (C.lists chronicle.old))) }
     ensures err { OnErr result (C.lists chronicle.new ≡ C.lists chronicle.old) }
 {
     chronicle.room()?;
@@ -145,9 +154,12 @@ fn begin_file<D: Disk>(disk: &mut D, pool: &mut Pool) -> Result<PoolFile, DiskFa
     requires number { pool.old.highest < 2 ^ 31 - 1 }
     requires none { pool.old.prepared ≡ [] }
     ensures file { IfOk result (λ file. file ≡ numbered_file (pool.old.highest + 1)) }
-    ensures pool { OnOk result (pool.new ≡ record { config = pool.old.config; highest = pool.old.highest + 1; prepared = [] }) }
-    ensures crash { Leaves (Making pool.old.config (pool.old.highest + 1)) (Making pool.old.config (pool.old.highest + 1)) (D.past disk.old) (D.past disk.new) }
-    ensures ok { OnOk result (Leaves (Making pool.old.config (pool.old.highest + 1)) (Made pool.old.config (pool.old.highest + 1)) (D.past disk.old) (D.past disk.new)) }
+    ensures pool { OnOk result (pool.new
+        ≡ record { config = pool.old.config; highest = pool.old.highest + 1; prepared = [] }) }
+    ensures crash { Leaves (Making pool.old.config (pool.old.highest + 1))
+        (Making pool.old.config (pool.old.highest + 1)) (D.past disk.old) (D.past disk.new) }
+    ensures ok { OnOk result (Leaves (Making pool.old.config (pool.old.highest + 1))
+        (Made pool.old.config (pool.old.highest + 1)) (D.past disk.old) (D.past disk.new)) }
     ensures cause { HasFault result (D.faults disk.old) (D.faults disk.new) }
     ensures later { D.moment disk.old ≤ D.moment disk.new }
 {
@@ -175,15 +187,29 @@ fn renew<D: Disk>(
     requires config { IsConfig config.now }
     requires number { loaded.now.highest_file < 2 ^ 31 - 1 }
     requires left { Told (D.past disk.old) (AreLeft loaded.now.leftovers) }
-    ensures pool { IfOk result (λ r. r.0 ≡ record { config = config.now; highest = loaded.now.highest_file + 1; prepared = [] }) }
+    ensures pool { IfOk result (λ r.
+        r.0
+        ≡ record
+        { config = config.now; highest = loaded.now.highest_file + 1; prepared = [] }) }
     ensures is { IfOk result (λ r. IsPool r.0) }
     ensures file { IfOk result (λ r. r.1 ≡ numbered_file (loaded.now.highest_file + 1)) }
-    ensures kept { (base : List Placed) (moment : ℕ) → IsBase (D.past disk.old) config.now.user_version loaded.now.highest_file base
+    ensures kept { (base : List Placed) (moment : ℕ)
+        → IsBase (D.past disk.old) config.now.user_version loaded.now.highest_file base
         → HoldsSince (D.past disk.old) moment (Holds config.now.user_version base 0 [])
         → HoldsSince (D.past disk.new) moment (Holds config.now.user_version base 0 []) }
-    ensures stands { OnOk result ((base : List Placed) (b : IsBase (D.past disk.old) config.now.user_version loaded.now.highest_file base)
-        → AllReads (D.past disk.new) (Stands config.now b.files (numbered_file (loaded.now.highest_file + 1)) 0 [] [])) }
-    ensures works { OnOk result (Works (SparesAllBut (IsRenewed loaded.now.highest_file (loaded.now.highest_file + 1))) config.now.file_size loaded.now.highest_file (loaded.now.highest_file + 1) (D.past disk.old) (D.past disk.new)) }
+    ensures stands { OnOk result ((base : List Placed)
+        (b : IsBase (D.past disk.old) config.now.user_version loaded.now.highest_file base)
+        → AllReads (D.past disk.new)
+        (Stands config.now b.files (numbered_file (loaded.now.highest_file + 1)) 0 [] [])) }
+    ensures works { OnOk result (Works
+        (SparesAllBut
+        (IsRenewed (D.past disk.old) loaded.now.highest_file (loaded.now.highest_file + 1)))
+        config.now.file_size loaded.now.highest_file (loaded.now.highest_file + 1)
+        (D.past disk.old) (D.past disk.new)) }
+    ensures failed_works { OnErr result (Worked false
+        (SparesAllBut (IsRenewed (D.past disk.old) loaded.now.highest_file
+        (loaded.now.highest_file + 1))) config.now.file_size loaded.now.highest_file
+        (loaded.now.highest_file + 1) (D.past disk.old) (D.past disk.new)) }
     ensures tidy { OnOk result (Told (D.past disk.new) IsTidy) }
     ensures cause { HasFault result (D.faults disk.old) (D.faults disk.new) }
     ensures later { D.moment disk.old ≤ D.moment disk.new }
@@ -205,20 +231,28 @@ struct Found {
 
 /// Loads the directory, makes its data files durable, and makes the table.
 fn find<D: Disk>(alloc: Global, disk: &mut D, config: &Config) -> Result<Found, OpenFault>
-    ensures base { IfOk result (λ f. IsBase (D.past disk.new) config.now.user_version f.loaded.highest_file f.loaded.base) }
-    ensures has_base { IfOk result (λ f. Told (D.past disk.old) (HasBase config.now.user_version f.loaded.base)) }
-    ensures numbers { IfOk result (λ f. Told (D.past disk.old) (HasNumbers (length f.loaded.files) f.loaded.highest_file)) }
+    ensures base { IfOk result (λ f.
+        IsBase (D.past disk.new) config.now.user_version f.loaded.highest_file f.loaded.base) }
+    ensures has_base { IfOk result
+        (λ f. Told (D.past disk.old) (HasBase config.now.user_version f.loaded.base)) }
+    ensures numbers { IfOk result
+        (λ f. Told (D.past disk.old) (HasNumbers (length f.loaded.files) f.loaded.highest_file)) }
     ensures count { IfOk result (λ f. length f.loaded.files ≤ f.loaded.highest_file + 1) }
     ensures unspent { IfOk result (λ f. f.loaded.highest_file < 2 ^ 31 - 1) }
     ensures left { IfOk result (λ f. Told (D.past disk.new) (AreLeft f.loaded.leftovers)) }
     ensures table { IfOk result (λ f. Follows (state_of f.table) f.loaded.base []) }
     ensures rollbacks { IfOk result (λ f. f.rollbacks.items ≡ rolled_back f.loaded.base) }
     ensures state { IfOk result (λ f. f.loaded.state ≡ result_of f.loaded.base) }
-    ensures loaded { IfOk result (λ f. Told (D.past disk.old) (IsStateOf config.now.user_version f.loaded.state)) }
+    ensures loaded { IfOk result
+        (λ f. Told (D.past disk.old) (IsStateOf config.now.user_version f.loaded.state)) }
     ensures calls { OnOk result (Makes AreOpeningCalls (D.past disk.old) (D.past disk.new)) }
     ensures first_calls { Makes AreFirstOpeningCalls (D.past disk.old) (D.past disk.new) }
     ensures crash { Leaves Syncs Syncs (D.past disk.old) (D.past disk.new) }
-    ensures cause { IfErr result (λ fault. (lists : Option Lists) → IfSome lists IsBlank → HasOpenCause config.now fault lists (D.past disk.old) (D.past disk.new) (D.faults disk.old) (D.faults disk.new)) }
+    ensures cause { IfErr result (λ fault.
+        (lists : Option Lists)
+        → IfSome lists IsBlank
+        → HasOpenCause config.now fault lists (D.past disk.old) (D.past disk.new)
+        (D.faults disk.old) (D.faults disk.new)) }
     ensures faults { OnOk result (NoneFailed (D.faults disk.old) (D.faults disk.new)) }
     ensures later { (D.faults disk.old).0 ≤ (D.faults disk.new).0 }
 {
@@ -246,25 +280,60 @@ pub fn begin<D: Disk, C: Chronicle>(
 ) -> Result<Begun, OpenFault>
     requires config { IsConfig config.now }
     requires blank { IfSome (C.lists chronicle.old) IsBlank }
-    ensures valid { IfOk result (λ b. (buffer : Buffered) → buffer ≡ record { bytes = []; capacity = config.now.buffer_size; timeout = config.now.buffer_timeout; since = None }
-        → (base : List Placed) × IsValid (rolling base 0) (D.past disk.new) (D.moment disk.new) (C.lists chronicle.new) (C.receipt_room chronicle.new) config.now (state_of b.table) b.pool (record { file = b.file; buffer = buffer; end = 16; appended = 0; durable = 0 })
-        × (b.rollbacks.items ≡ rolled_back base) × (b.state ≡ result_of base)) }
+    ensures valid { IfOk result (λ b.
+        (buffer : Buffered)
+        → buffer
+        ≡ record {
+          bytes = [];
+          capacity = config.now.buffer_size;
+          timeout = config.now.buffer_timeout;
+          since = None;
+        }
+        → (base : List Placed)
+        × IsValid (rolling base 0) (D.past disk.new) (D.moment disk.new)
+        (C.lists chronicle.new) (C.receipt_room chronicle.new) config.now
+        (state_of b.table) b.pool (record
+        { file = b.file; buffer = buffer; end = 16; appended = 0; durable = 0 })
+        × (b.rollbacks.items ≡ rolled_back base)
+        × (b.state ≡ result_of base)) }
     ensures pool { IfOk result (λ b. (b.pool.prepared ≡ []) × (b.pool.highest ≡ b.file.id)) }
-    ensures lists { OnOk result (IfSome (C.lists chronicle.new) (λ l. (l.steps ≡ []) × Told (D.past disk.old) (HasBase config.now.user_version l.base))) }
-    ensures numbers { IfOk result (λ b. Told (D.past disk.old) (λ s. (before : ℕ) × HasNumbers b.files before s × (b.file.id ≡ before + 1) × (before < 2 ^ 31 - 1))) }
+    ensures lists { OnOk result (IfSome (C.lists chronicle.new)
+        (λ l. (l.steps ≡ []) × Told (D.past disk.old) (HasBase config.now.user_version l.base))) }
+    ensures numbers { IfOk result (λ b.
+        Told (D.past disk.old) (λ s.
+        (before : ℕ)
+        × HasNumbers b.files before s
+        × (b.file.id ≡ before + 1)
+        × (before < 2 ^ 31 - 1))) }
     ensures count { IfOk result (λ b. b.files ≤ b.file.id) }
-    ensures loaded { IfOk result (λ b. Told (D.past disk.old) (IsStateOf config.now.user_version b.state)) }
-    ensures begun { IfOk result (λ b. (before : ℕ) × (b.file ≡ numbered_file (before + 1)) × (b.pool.highest ≡ before + 1) × (before < 2 ^ 31 - 1) × Told (D.past disk.old) (HasNumbers b.files before) × Works (SyncsAllBut (IsRenewed before (before + 1))) config.now.file_size before (before + 1) (D.past disk.old) (D.past disk.new)) }
+    ensures loaded { IfOk result
+        (λ b. Told (D.past disk.old) (IsStateOf config.now.user_version b.state)) }
+    ensures begun { IfOk result (λ b.
+        (before : ℕ)
+        × (b.file ≡ numbered_file (before + 1))
+        × (b.pool.highest ≡ before + 1)
+        × (before < 2 ^ 31 - 1)
+        × Told (D.past disk.old) (HasNumbers b.files before)
+        × Works (SyncsAllBut (IsRenewed (D.past disk.old) before (before + 1)))
+        config.now.file_size before (before + 1) (D.past disk.old) (D.past disk.new)) }
+    ensures failed_files { OnErr result
+        (HasFailedFiles config.now [] (D.past disk.old) (D.past disk.new)) }
     ensures tidy { OnOk result (Told (D.past disk.new) IsTidy) }
-    ensures cause { IfErr result (λ fault. HasOpenCause config.now fault (C.lists chronicle.new) (D.past disk.old) (D.past disk.new) (D.faults disk.old) (D.faults disk.new)) }
+    ensures cause { IfErr result (λ fault.
+        HasOpenCause config.now fault (C.lists chronicle.new) (D.past disk.old) (D.past disk.new)
+        (D.faults disk.old) (D.faults disk.new)) }
     ensures faults { OnOk result (NoneFailed (D.faults disk.old) (D.faults disk.new)) }
     ensures later { (D.faults disk.old).0 ≤ (D.faults disk.new).0 }
     ensures unstepped { IfSome (C.lists chronicle.new) (λ l. l.steps ≡ []) }
-    ensures crash_safe { IfSome (C.lists chronicle.new) (IsCrashSafe (D.past disk.new) (D.moment disk.new) config.now.user_version) }
-    ensures base { IfSome (C.lists chronicle.new) (λ l. IsBlank l ⊎ Told (D.past disk.old) (HasBase config.now.user_version l.base)) }
-    ensures rollbacks { IfSome (C.lists chronicle.new) (λ l. IsBlank l ⊎ Told (D.past disk.old) (AreFirstRollbacks config.now l)) }
+    ensures crash_safe { IfSome (C.lists chronicle.new)
+        (IsCrashSafe (D.past disk.new) (D.moment disk.new) config.now.user_version) }
+    ensures base { IfSome (C.lists chronicle.new)
+        (λ l. IsBlank l ⊎ Told (D.past disk.old) (HasBase config.now.user_version l.base)) }
+    ensures rollbacks { IfSome (C.lists chronicle.new)
+        (λ l. IsBlank l ⊎ Told (D.past disk.old) (AreFirstRollbacks config.now l)) }
     ensures unnoted { IfSome (C.lists chronicle.new) (λ l. l.receipts ≡ [] → IsBlank l) }
-    ensures begins { IfSome (C.lists chronicle.new) (λ l. BeginsBySyncs l.receipts (D.past disk.old) (D.past disk.new)) }
+    ensures begins { IfSome (C.lists chronicle.new)
+        (λ l. BeginsBySyncs l.receipts (D.past disk.old) (D.past disk.new)) }
     ensures owed { IfSome (C.lists chronicle.new) (AreOwedToSteps config.now) }
 {
     let Found {

@@ -12,8 +12,10 @@ use amq_io::{Disk, DiskFault, faults};
 pub fn put<D: Disk>(disk: &mut D, name: &str, place: u64, bytes: &[u8]) -> Result<(), DiskFault>
     requires there { Told (D.past disk.old) (IsThere name.now) }
     requires within { Told (D.past disk.old) (IsWithin name.now (place + length bytes.now)) }
-    ensures crash { Leaves (Puts name.now place bytes.now) (Puts name.now place bytes.now) (D.past disk.old) (D.past disk.new) }
-    ensures ok { OnOk result (Leaves (Puts name.now place bytes.now) (Put name.now place bytes.now) (D.past disk.old) (D.past disk.new)) }
+    ensures crash { Leaves (Puts name.now place bytes.now) (Puts name.now place bytes.now)
+        (D.past disk.old) (D.past disk.new) }
+    ensures ok { OnOk result (Leaves (Puts name.now place bytes.now)
+        (Put name.now place bytes.now) (D.past disk.old) (D.past disk.new)) }
     ensures cause { HasFault result (D.faults disk.old) (D.faults disk.new) }
     ensures time { OnOk result (D.moment disk.new ≡ counted (counted (D.moment disk.old))) }
     ensures later { D.moment disk.old ≤ D.moment disk.new }

@@ -49,22 +49,30 @@ pub fn write_out<D: Disk, C: Chronicle>(
     requires room { (tail.old.buffer.bytes ≡ [] → ⊥) → 1 ≤ C.receipt_room chronicle.old }
     requires start { 16 ≤ tail.old.end }
     ensures valid { (stage : Stage) (config : Config) (table : TxState) (pool : PoolOf)
-        → IsValid stage (D.past disk.old) (D.moment disk.old) (C.lists chronicle.old) (C.receipt_room chronicle.old) config table pool tail.old
-        → IsValid stage (D.past disk.new) (D.moment disk.new) (C.lists chronicle.new) (C.receipt_room chronicle.new) config table pool tail.new }
+        → IsValid stage (D.past disk.old) (D.moment disk.old) (C.lists chronicle.old)
+        (C.receipt_room chronicle.old) config table pool tail.old
+        → IsValid stage (D.past disk.new) (D.moment disk.new) (C.lists chronicle.new)
+        (C.receipt_room chronicle.new) config table pool tail.new }
     ensures ok { OnOk result (tail.new ≡ written_out tail.old) }
     ensures same { OnErr result (tail.new ≡ tail.old) }
-    ensures receipt { C.lists chronicle.new ≡ receipted (is_ok result && is_some tail.old.buffer.since) tail.old.appended (D.moment disk.new) (C.lists chronicle.old) }
+    ensures receipt { C.lists chronicle.new
+        ≡ receipted (is_ok result && is_some tail.old.buffer.since) tail.old.appended
+        (D.moment disk.new) (C.lists chronicle.old) }
     ensures steps { C.step_room chronicle.new ≡ C.step_room chronicle.old }
     ensures room { C.receipt_room chronicle.old ≤ C.receipt_room chronicle.new + 1 }
     ensures idle { tail.old.buffer.since ≡ None → disk.new ≡ disk.old }
     ensures quiet { tail.old.buffer.since ≡ None → is_ok result ≡ true }
     ensures cause { HasFault result (D.faults disk.old) (D.faults disk.new) }
-    ensures time { OnOk result (tail.old.buffer.since ≡ None ⊎ (D.moment disk.new ≡ counted (counted (D.moment disk.old)))) }
+    ensures time { OnOk result (tail.old.buffer.since ≡ None
+        ⊎ (D.moment disk.new ≡ counted (counted (D.moment disk.old)))) }
     ensures later { D.moment disk.old ≤ D.moment disk.new }
     ensures goes_on { GoesOn (D.past disk.old) (D.past disk.new) }
     ensures tidy { OnOk result (Told (D.past disk.old) IsTidy → Told (D.past disk.new) IsTidy) }
-    ensures works { (size first : ℕ) → Works (SparesAllBut (λ n. n ≡ tail.old.file.name)) size first first (D.past disk.old) (D.past disk.new) }
-    ensures calls { D.moment disk.new ≤ D.moment disk.old + (if is_some tail.old.buffer.since then 2 else 0) }
+    ensures works { (size first : ℕ)
+        → Works (SparesAllBut (λ n. n ≡ tail.old.file.name)) size first first (D.past disk.old)
+        (D.past disk.new) }
+    ensures calls { D.moment disk.new
+        ≤ D.moment disk.old + (if is_some tail.old.buffer.since then 2 else 0) }
 {
     if tail.buffer.is_empty() {
         return Ok(());
@@ -87,7 +95,8 @@ pub fn put_record(
     rec: Option<Record>,
 ) -> (Reply, Option<Placed>)
     requires short { IfSome rec (λ rec. len_of rec < 2 ^ 31) }
-    requires fits { IfSome rec (λ rec. length tail.old.buffer.bytes + len_of rec ≤ tail.old.buffer.capacity) }
+    requires fits { IfSome rec
+        (λ rec. length tail.old.buffer.bytes + len_of rec ≤ tail.old.buffer.capacity) }
     requires size { end_of_tail tail.old ≤ 268435456 }
     requires number { tail.old.file.id < 2 ^ 31 }
     requires count { tail.old.appended < 2 ^ 64 - 1 }

@@ -1,4 +1,4 @@
-use Rattle.std.proofs.Common.{◌≡◌, ◌+◌, ◌-◌, ◌^◌, ◌<◌, ◌≤◌, Bool, true, false, subst, ℕ, suc, refl, sym, ap, ◌∙◌, arith}
+use Rattle.std.proofs.Common.{◌≡◌, ◌+◌, ◌-◌, ◌<◌, true, false, subst, ℕ, suc, refl, sym, ap, ◌∙◌, arith}
 use Rattle.amq_pool.specs.Pools.{PoolOf, with_next}
 use Rattle.amq_engine.specs.Engine.{with_files}
 use Rattle.amq_engine.proofs.GoingOn.{goes_still, goes_through}
@@ -42,13 +42,14 @@ loop-preserved g c =
       works =
           let p = c.args.pool.now in
           let now = c.loop.pool in
+          let more : c.prepare.new.pool.highest ≡ now.highest + 1 = ap (λ (q : PoolOf). q.highest) c.in_ok-prepare.ensures.prepared in
           let past = g.D.Disk.past in
           let size : now.config.file_size ≡ p.config.file_size = ap (λ (q : PoolOf). q.config.file_size) c.loop.invariant.filled ∙ ap (λ (k : Config). k.file_size) (with_files_config c.loop.counter p) in
           let made : Worked true (SparesAllBut (IsPreparing (now.highest + 1) (now.highest + 1))) p.config.file_size now.highest (now.highest + 1) (past c.loop.disk) (past c.prepare.new.disk) =
           subst (λ (n : ℕ). Worked true (SparesAllBut (IsPreparing (now.highest + 1) (now.highest + 1))) n now.highest (now.highest + 1) (past c.loop.disk) (past c.prepare.new.disk)) size
           c.in_ok-prepare.ensures.works in
           to_then true p.config.file_size (p.highest + 1) p.highest now.highest (now.highest + 1) (now.highest + 1) c.prepare.new.pool.highest (past c.args.disk.now) (past c.loop.disk) (past c.prepare.new.disk)
-          (omega (arith, c.loop.invariant.highest)) (omega arith) (grind (arith, c.loop-test.true, c.loop.invariant.highest, c.min-end.ensures, c.saturating_sub-missing.ensures, c.saturating_sub-left.ensures, c.highest.ensures.value, c.from.ensures)) (λ d. sym (ap (λ (q : PoolOf). q.highest) c.in_ok-prepare.ensures.prepared)) c.loop.invariant.works made;
+          (omega (arith, c.loop.invariant.highest)) (omega arith) (grind (arith, c.loop-test.true, c.loop.invariant.highest, c.min-end.ensures, c.saturating_sub-missing.ensures, c.saturating_sub-left.ensures, c.highest.ensures.value, c.from.ensures)) (λ d. sym more) (omega (arith, more)) c.loop.invariant.works made (omega (arith, more, made.all refl));
     }
 
 pub returns-in_err-prepare-clause-failed_works : goal.returns-in_err-prepare-clause-failed_works
@@ -57,15 +58,21 @@ returns-in_err-prepare-clause-failed_works g c =
     let now = c.loop.pool in
     let past = g.D.Disk.past in
     let size : now.config.file_size ≡ p.config.file_size = ap (λ (q : PoolOf). q.config.file_size) c.loop.invariant.filled ∙ ap (λ (k : Config). k.file_size) (with_files_config c.loop.counter p) in
+    let same : c.prepare.new.pool.highest ≡ now.highest = ap (λ (q : PoolOf). q.highest) c.in_err-prepare.ensures.unchanged in
     let made : Worked false (SparesAllBut (IsPreparing (now.highest + 1) (now.highest + 1))) p.config.file_size now.highest (now.highest + 1) (past c.loop.disk) (past c.prepare.new.disk) =
     subst (λ (n : ℕ). Worked false (SparesAllBut (IsPreparing (now.highest + 1) (now.highest + 1))) n now.highest (now.highest + 1) (past c.loop.disk) (past c.prepare.new.disk)) size
     c.in_err-prepare.ensures.failed_works in
     on_err _ (WorkedTo false p.config.file_size (p.highest + 1) p.highest c.prepare.new.pool.highest (past c.args.disk.now) (past c.prepare.new.disk))
     (to_then false p.config.file_size (p.highest + 1) p.highest now.highest (now.highest + 1) (now.highest + 1) c.prepare.new.pool.highest (past c.args.disk.now) (past c.loop.disk) (past c.prepare.new.disk)
-    (omega (arith, c.loop.invariant.highest)) (omega arith) (grind (arith, c.loop-test.true, c.loop.invariant.highest, c.min-end.ensures, c.saturating_sub-missing.ensures, c.saturating_sub-left.ensures, c.highest.ensures.value, c.from.ensures)) (λ d. absurd (no d)) c.loop.invariant.works made)
+    (omega (arith, c.loop.invariant.highest)) (omega arith) (grind (arith, c.loop-test.true, c.loop.invariant.highest, c.min-end.ensures, c.saturating_sub-missing.ensures, c.saturating_sub-left.ensures, c.highest.ensures.value, c.from.ensures)) (λ d. absurd (no d)) (omega (arith, same)) c.loop.invariant.works made (omega (arith, same, made.least)))
   where
     no : false ≡ true → ⊥
     no e = cc
 
 pub returns-clause-works : goal.returns-clause-works
 returns-clause-works g c = c.loop.invariant.works
+
+pub returns-in_err-prepare-clause-few : goal.returns-in_err-prepare-clause-few
+returns-in_err-prepare-clause-few g c =
+    let same : c.prepare.new.pool.highest ≡ c.loop.pool.highest = ap (λ (q : PoolOf). q.highest) c.in_err-prepare.ensures.unchanged in
+    on_err _ (c.prepare.new.pool.highest < c.args.pool.now.highest + (c.args.min_files - c.args.files)) (grind (arith, same, c.loop-test.true, c.loop.invariant.highest, c.min-end.ensures, c.saturating_sub-missing.ensures, c.saturating_sub-left.ensures, c.highest.ensures.value, c.from.ensures))

@@ -1,7 +1,7 @@
-use Rattle.std.proofs.Common.{◌≡◌, ◌+◌, ℕ, Bool, true, false, cond, List, length, refl, sym, subst, ap, ◌∙◌}
+use Rattle.std.proofs.Common.{◌≡◌, ◌+◌, Bool, true, false, cond, sym, subst, ap, ◌∙◌}
 use Rattle.amq_engine.specs.Receipts.{GoesOn}
 use Rattle.amq_model.specs.Leaves.{SparesAllBut}
-use Rattle.amq_engine.specs.DataFiles.{IsPreparing, IsUsedOrNew, Works, Worked}
+use Rattle.amq_engine.specs.DataFiles.{IsUsedOrNew, Worked}
 use Rattle.amq_engine.proofs.DataFiles.{nil_files, on_err, nil_by, some_by, wrote_first, wrote_only, wrote_then}
 use Rattle.amq_engine.specs.Engine.{IsValid, is_nil}
 use Rattle.amq_engine.proofs.Going.{valid_on}

@@ -1,4 +1,4 @@
-use Rattle.std.proofs.Common.{ℕ, ◌≡◌, ◌⊎◌, inl, ◌-◌, ◌^◌, ◌<◌, ◌≤◌, List, [], length, option_map, refl, sym, ap, subst, ◌∙◌, arith}
+use Rattle.std.proofs.Common.{ℕ, ◌≡◌, ◌⊎◌, inl, inr, false, ◌-◌, ◌^◌, ◌<◌, ◌≤◌, List, [], length, option_map, refl, sym, ap, subst, ◌∙◌, arith}
 use Rattle.std.specs.Prelude.{IfSome}
 use Rattle.amq_model.specs.declared.record.Placed.{Placed}
 use Rattle.amq_model.specs.declared.directory.OpenFault.{OpenFault}
@@ -13,7 +13,9 @@ use Rattle.amq_engine.proofs.Begun.{IsNoted, noted, noted_safe, base_now, begun_
 use Rattle.amq_engine.proofs.Commanding.{when_err}
 use Rattle.amq_engine.proofs.Beginning.{begins_blank}
 use Rattle.amq_engine.proofs.Owing.{first_owed, blank_owed}
-use Rattle.amq_engine.proofs.OpenedFiles.{begun_works}
+use Rattle.amq_engine.proofs.OpenedFiles.{begun_works, begun_worked, unbegun_has}
+use Rattle.amq_engine.proofs.DataFiles.{on_err}
+use Rattle.amq_engine.specs.DataFiles.{HasFailedFiles}
 use Rattle.amq_engine.proofs.opening.begin.Goals as goal
 
 -- where nothing was noted the chronicle is blank
@@ -304,3 +306,19 @@ returns-in-Ok-clause-begun g c =
       subst (λ (n : ℕ). Told (past c.args.disk.now) (HasNumbers n loaded.highest_file)) (sym c.len-files.ensures) c.in_ok-loaded.ensures.numbers,
       begun_works c.args.config.now.file_size loaded.highest_file (past c.args.disk.now) (past c.find.new.disk) (past c.renew.new.disk) c.in_ok-loaded.ensures.unspent c.find.ensures.crash c.in-Ok.ensures.works,
     )
+
+-- only syncs came before
+pub returns-in_err-loaded-clause-failed_files : goal.returns-in_err-loaded-clause-failed_files
+returns-in_err-loaded-clause-failed_files g c = on_err _ (HasFailedFiles c.args.config.now [] (g.D.Disk.past c.args.disk.now) (g.D.Disk.past c.find.new.disk)) (inl c.find.ensures.crash)
+
+pub returns-then-is_err-clause-failed_files : goal.returns-then-is_err-clause-failed_files
+returns-then-is_err-clause-failed_files g c = inl c.find.ensures.crash
+
+pub returns-in-Err-clause-failed_files : goal.returns-in-Err-clause-failed_files
+returns-in-Err-clause-failed_files g c =
+    let past = g.D.Disk.past in
+    let config = c.args.config.now in
+    let loaded = c.in_ok-loaded.field-0.loaded in
+    let h = loaded.highest_file in
+    inr (unbegun_has config (length loaded.files) h (past c.args.disk.now) (past c.renew.new.disk) c.in_ok-loaded.ensures.unspent c.in_ok-loaded.ensures.numbers
+    (begun_worked false config.file_size h (past c.args.disk.now) (past c.find.new.disk) (past c.renew.new.disk) c.in_ok-loaded.ensures.unspent c.find.ensures.crash c.in-Err.ensures.failed_works))

@@ -1,9 +1,11 @@
-use Rattle.std.proofs.Common.{◌≡◌, ℕ, List, [], length, slice_get, refl, sym, ap, subst, ◌∙◌, arith, true}
+use Rattle.std.proofs.Common.{◌≡◌, ℕ, List, [], length, slice_get, refl, sym, ap, subst, ◌∙◌, arith, true, false}
 use Rattle.std.specs.Prelude.{take, IfSome}
 use Rattle.std.proofs.lemmas.Option.{slice_get-get_or}
 use Rattle.amq_model.specs.declared.history.Step.{Step}
 use Rattle.amq_model.specs.Answers.{history_of}
 use Rattle.amq_tx.specs.Tables.{state_of}
+use Rattle.amq_pool.specs.Pools.{PoolOf}
+use Rattle.amq_engine.specs.DataFiles.{WorkedTo, file_of_last}
 use Rattle.amq_engine.specs.Engine.{rolling, IsValid, end_of_tail}
 use Rattle.amq_engine.specs.Opening.{EndsIn, rollbacks_behind}
 use Rattle.amq_engine.specs.Owed.{AreOwedAtOpening}
@@ -72,7 +74,7 @@ loop-done-preserved g c =
       goes = goes_through (g.D.Disk.past c.args.disk.now) (g.D.Disk.past c.loop-done.disk) (g.D.Disk.past c.roll_back_next.new.disk) c.loop-done.invariant.goes c.roll_back_next.ensures.goes_on;
       owed = λ all. c.in_ok-roll_back_next.ensures.owed (c.loop-done.invariant.owed all);
       named = c.in_ok-roll_back_next.ensures.named;
-      works = to_and_then c.args.config.now.file_size c.args.pool.now.highest c.loop-done.pool.highest c.roll_back_next.new.pool.highest (g.D.Disk.past c.args.disk.now) (g.D.Disk.past c.loop-done.disk) (g.D.Disk.past c.roll_back_next.new.disk) c.loop-done.invariant.works c.in_ok-roll_back_next.ensures.works;
+      works = to_and_then true c.args.config.now.file_size c.args.pool.now.highest c.loop-done.pool.highest c.roll_back_next.new.pool.highest (g.D.Disk.past c.args.disk.now) (g.D.Disk.past c.loop-done.disk) (g.D.Disk.past c.roll_back_next.new.disk) c.loop-done.invariant.works c.in_ok-roll_back_next.ensures.works;
     }
 
 pub returns-clause-ok : goal.returns-clause-ok
@@ -116,3 +118,19 @@ returns-clause-named g c = c.loop-done.invariant.named
 
 pub returns-clause-works : goal.returns-clause-works
 returns-clause-works g c = c.loop-done.invariant.works
+
+pub returns-in_err-roll_back_next-clause-failed_works : goal.returns-in_err-roll_back_next-clause-failed_works
+returns-in_err-roll_back_next-clause-failed_works g c =
+    on_err _ (WorkedTo false c.args.config.now.file_size c.args.pool.now.highest c.args.pool.now.highest c.roll_back_next.new.pool.highest (g.D.Disk.past c.args.disk.now) (g.D.Disk.past c.roll_back_next.new.disk))
+    (to_and_then false c.args.config.now.file_size c.args.pool.now.highest c.loop-done.pool.highest c.roll_back_next.new.pool.highest (g.D.Disk.past c.args.disk.now) (g.D.Disk.past c.loop-done.disk) (g.D.Disk.past c.roll_back_next.new.disk) c.loop-done.invariant.works c.in_err-roll_back_next.ensures.failed_works)
+
+pub returns-in_err-roll_back_next-clause-failed_last : goal.returns-in_err-roll_back_next-clause-failed_last
+returns-in_err-roll_back_next-clause-failed_last g c =
+    let first = c.args.tail.now.file.id in
+    let t = c.loop-done.tail in
+    let at : c.roll_back_next.new.pool.highest ≡ t.file.id = ap (λ (p : PoolOf). p.highest) c.in_err-roll_back_next.ensures.same_pool ∙ c.loop-done.invariant.begun.1 in
+    let P : List Step → Type 0 = λ ss. c.roll_back_next.new.pool.highest ≡ file_of_last first (history_of ss) in
+    let before = g.C.Chronicle.lists c.loop-done.chronicle in
+    on_err _ (IfSome (g.C.Chronicle.lists c.roll_back_next.new.chronicle) (λ l. P l.steps))
+    (steps_so P before (g.C.Chronicle.lists c.roll_back_next.new.chronicle) c.in_err-roll_back_next.ensures.unstepped
+    (if_some (λ l. EndsIn first (history_of l.steps) t.file.id (end_of_tail t)) (λ l. P l.steps) before (λ l ends. at ∙ ends.0) c.loop-done.invariant.ends))

@@ -1,4 +1,4 @@
-use Rattle.std.proofs.Common.{◌≡◌, ◌+◌, ◌≤◌, ℕ, Bool, true, [], ◌∷◌, ◌++◌, length, List, Option, None, Some, refl, sym, ap, subst, ◌∙◌, arith, cond}
+use Rattle.std.proofs.Common.{◌≡◌, ◌+◌, ◌-◌, ◌^◌, ◌≤◌, ℕ, Bool, true, false, [], ◌∷◌, ◌++◌, length, List, Option, None, Some, refl, sym, ap, subst, ◌∙◌, arith, cond}
 use Rattle.std.specs.Prelude.{IfSome, is_some, option_map, ◌&&◌}
 use Rattle.amq_model.specs.declared.record.Placed.{Placed}
 use Rattle.amq_model.specs.declared.record.Record.TheVariants as rec
@@ -17,7 +17,7 @@ use Rattle.amq_engine.specs.Engine.{rolling, IsValid, end_of_tail, passes, spent
 use Rattle.amq_engine.specs.Opening.{NeedsFile, rollback_behind, EndsIn}
 use Rattle.amq_model.specs.Answers.{history_of}
 use Rattle.amq_engine.proofs.Sound.{sound_there, sound_within}
-use Rattle.amq_engine.proofs.Commanding.{when_ok, few_appends, count_fits, put_fits, valid_room}
+use Rattle.amq_engine.proofs.Commanding.{spent_left, when_ok, few_appends, count_fits, put_fits, valid_room}
 use Rattle.amq_engine.proofs.RollingBack.{accepts_next, refused_spent, roll_spent, rolled_ends, valid_rolled}
 use Rattle.amq_engine.proofs.GoingOn.{goes_still}
 use Rattle.amq_engine.proofs.Owing.{owed_in_opening, owed_same, owed_failed, owed_rolled}
@@ -25,6 +25,7 @@ use Rattle.amq_engine.proofs.FilesTold.{sound_start, readied_most}
 use Rattle.amq_model.specs.declared.config.Config.{Config}
 use Rattle.amq_pool.specs.declared.pool.PoolFile.{PoolFile}
 use Rattle.amq_engine.specs.DataFiles.{WorkedTo}
+use Rattle.amq_engine.proofs.DataFiles.{to_still, most_by, most_limit, none_by}
 use Rattle.amq_engine.proofs.OpenedFiles.{named_ready, rolled_to}
 use Rattle.amq_engine.proofs.Beginning.{starts_same, starts_failed, starts_step, starts_receipted}
 use Rattle.amq_engine.proofs.Rollbacks.{placed_is, same_steps, steps_failed, steps_more}
@@ -264,6 +265,28 @@ returns-clause-works g c =
     let valid : IsValid stage (g.D.Disk.past c.ready.new.disk) (g.D.Disk.moment c.ready.new.disk) (lists c.ready.new.chronicle) (room c.ready.new.chronicle) e.config.now table c.ready.new.pool c.ready.new.tail = c.ready.ensures.valid stage e.config.now table same in
     let h = e.pool.now.highest in
     let most = cond (c.passes-moves.result && is_nil e.pool.now.prepared) (h + 1) h in
+    let is : most ≡ c.ready.new.pool.highest = sym (ap (λ (p : PoolOf). p.highest) c.in_default.ensures.pool ∙ readied_most c.passes-moves.result e.pool.now) in
     subst (λ (k : Config). WorkedTo true k.file_size h h c.ready.new.pool.highest past (g.D.Disk.past c.ready.new.disk)) c.requires.valid.1.sound.parts.same_config
-    (rolled_to e.tail.now.file.name e.pool.now.config.file_size h most c.ready.new.pool.highest past (g.D.Disk.past c.ready.new.disk) (ap (λ (f : PoolFile). f.name) c.requires.named)
-    (sym (ap (λ (p : PoolOf). p.highest) c.in_default.ensures.pool ∙ readied_most c.passes-moves.result e.pool.now)) valid.sound.parts.numbers c.in_default.ensures.works)
+    (rolled_to true e.tail.now.file.name e.pool.now.config.file_size h most c.ready.new.pool.highest past (g.D.Disk.past c.ready.new.disk) (ap (λ (f : PoolFile). f.name) c.requires.named)
+    (omega (arith, is, valid.sound.parts.numbers)) (λ d. is) (omega (arith, is)) c.in_default.ensures.works (omega (arith, is, c.in_default.ensures.works.all refl)))
+
+pub returns-then-is_err-clause-failed_works : goal.returns-then-is_err-clause-failed_works
+returns-then-is_err-clause-failed_works g c = to_still false c.args.config.now.file_size c.args.pool.now.highest c.args.pool.now.highest (g.D.Disk.past c.args.disk.now) c.requires.valid.1.sound.parts.numbers
+
+pub returns-then-is_some-clause-failed_works : goal.returns-then-is_some-clause-failed_works
+returns-then-is_some-clause-failed_works g c = to_still false c.args.config.now.file_size c.args.pool.now.highest c.args.pool.now.highest (g.D.Disk.past c.args.disk.now) c.requires.valid.1.sound.parts.numbers
+
+pub returns-in-Err-clause-failed_works : goal.returns-in-Err-clause-failed_works
+returns-in-Err-clause-failed_works g c =
+    let e = c.args in
+    let past = g.D.Disk.past e.disk.now in
+    let h = e.pool.now.highest in
+    let most = cond (c.passes-moves.result && is_nil e.pool.now.prepared) (h + 1) h in
+    let at : c.ready.new.pool.highest ≡ h = ap (λ (p : PoolOf). p.highest) c.in-Err.ensures.same_pool in
+    let low : most ≤ 2 ^ 31 - 1 = most_limit c.passes-moves.result e.pool.now c.requires.valid.1.sound.parts.numbers (λ moving none. spent_left c.passes-moves.result h (ids_of e.pool.now.prepared) (none_by (spent c.passes-moves.result h (ids_of e.pool.now.prepared)) (sym (ap is_some c.number_refusal.ensures.first) ∙ sym c.is_some.ensures ∙ c.if-is_some.false)) moving (ap ids_of none)) in
+    subst (λ (k : Config). WorkedTo false k.file_size h h c.ready.new.pool.highest past (g.D.Disk.past c.ready.new.disk)) c.requires.valid.1.sound.parts.same_config
+    (rolled_to false e.tail.now.file.name e.pool.now.config.file_size h most c.ready.new.pool.highest past (g.D.Disk.past c.ready.new.disk) (ap (λ (f : PoolFile). f.name) c.requires.named)
+    low (λ d. absurd (no d)) (omega (arith, at, (most_by (c.passes-moves.result && is_nil e.pool.now.prepared) h).1)) c.in-Err.ensures.failed_works (omega (arith, at, c.in-Err.ensures.failed_works.least)))
+  where
+    no : false ≡ true → ⊥
+    no e = cc

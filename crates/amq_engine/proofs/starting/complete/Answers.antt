@@ -1,17 +1,18 @@
-use Rattle.std.proofs.Common.{◌≡◌, ℕ, List, ◌+◌, ◌-◌, ◌^◌, length, sym, ap, ◌∙◌, true, subst}
-use Rattle.std.specs.Prelude.{min, take, is_ok, is_some}
+use Rattle.std.proofs.Common.{◌≡◌, ◌⊎◌, inl, inr, ◌≤◌, false, arith, ℕ, List, ◌+◌, ◌-◌, ◌^◌, length, sym, ap, ◌∙◌, true, subst}
+use Rattle.std.specs.Prelude.{min, take, is_ok, is_some, IfSome}
 use Rattle.amq_model.specs.declared.history.Step.{Step}
 use Rattle.amq_model.specs.Answers.{history_of}
 use Rattle.amq_tx.specs.Tables.{state_of}
 use Rattle.amq_engine.specs.declared.tail.Tail.{Tail}
-use Rattle.amq_engine.specs.Engine.{rolling, with_files}
+use Rattle.amq_engine.specs.Engine.{rolling, with_files, end_of_tail}
 use Rattle.amq_engine.proofs.Sound.{sound_there, sound_within}
-use Rattle.amq_engine.specs.Opening.{rollbacks_behind}
-use Rattle.amq_engine.proofs.Started.{filled_by}
+use Rattle.amq_engine.specs.Opening.{EndsIn, rollbacks_behind}
+use Rattle.amq_engine.proofs.Started.{filled_by, on_err}
+use Rattle.amq_engine.proofs.Receipts.{if_some}
 use Rattle.amq_engine.proofs.Rollbacks.{same_steps, steps_so}
 use Rattle.amq_model.specs.declared.config.Config.{Config}
 use Rattle.amq_pool.specs.declared.pool.PoolFile.{PoolFile}
-use Rattle.amq_engine.specs.DataFiles.{WorkedTo}
+use Rattle.amq_engine.specs.DataFiles.{WorkedTo, file_of_last}
 use Rattle.amq_engine.proofs.OpenedFiles.{to_and_then, put_to, further_to}
 use Rattle.amq_engine.proofs.FilesTold.{sound_start}
 use Rattle.amq_engine.proofs.GoingOn.{goes_through}
@@ -148,8 +149,64 @@ returns-in-Ok-clause-works g c =
     let first = c.args.pool.now.highest in
     let mid = c.roll_back.new.pool.highest in
     let rolled = c.in_ok-roll_back.ensures.works in
-    let put = put_to c.roll_back.new.tail.file.name config.file_size mid (past c.roll_back.new.disk) (past c.write_out.new.disk) (ap (λ (f : PoolFile). f.name) c.in_ok-roll_back.ensures.named) v.sound.parts.numbers (c.write_out.ensures.works config.file_size mid) in
+    let put = put_to true c.roll_back.new.tail.file.name config.file_size mid (past c.roll_back.new.disk) (past c.write_out.new.disk) (ap (λ (f : PoolFile). f.name) c.in_ok-roll_back.ensures.named) v.sound.parts.numbers (c.write_out.ensures.works config.file_size mid) in
     let filled = subst (λ (k : Config). WorkedTo true k.file_size (mid + 1) mid c.fill_pool.new.pool.highest (past c.write_out.new.disk) (past c.fill_pool.new.disk)) v.sound.parts.same_config c.in-Ok.ensures.works in
-    to_and_then config.file_size first mid c.fill_pool.new.pool.highest (past c.args.disk.now) (past c.write_out.new.disk) (past c.fill_pool.new.disk)
-    (to_and_then config.file_size first mid mid (past c.args.disk.now) (past c.roll_back.new.disk) (past c.write_out.new.disk) rolled put)
-    (further_to config.file_size mid c.fill_pool.new.pool.highest (past c.write_out.new.disk) (past c.fill_pool.new.disk) filled)
+    to_and_then true config.file_size first mid c.fill_pool.new.pool.highest (past c.args.disk.now) (past c.write_out.new.disk) (past c.fill_pool.new.disk)
+    (to_and_then true config.file_size first mid mid (past c.args.disk.now) (past c.roll_back.new.disk) (past c.write_out.new.disk) rolled put)
+    (further_to true config.file_size mid c.fill_pool.new.pool.highest (past c.write_out.new.disk) (past c.fill_pool.new.disk) filled)
+
+pub returns-in-Err-clause-failed_works : goal.returns-in-Err-clause-failed_works
+returns-in-Err-clause-failed_works g c =
+    let past = g.D.Disk.past in
+    let config = c.args.config.now in
+    let v = c.in_ok-roll_back.ensures.ok c.requires.valid.0 c.requires.valid.2 c.requires.valid.1 in
+    let first = c.args.pool.now.highest in
+    let mid = c.roll_back.new.pool.highest in
+    let put = put_to false c.roll_back.new.tail.file.name config.file_size mid (past c.roll_back.new.disk) (past c.write_out.new.disk) (ap (λ (f : PoolFile). f.name) c.in_ok-roll_back.ensures.named) v.sound.parts.numbers (c.write_out.ensures.works config.file_size mid) in
+    to_and_then false config.file_size first mid mid (past c.args.disk.now) (past c.roll_back.new.disk) (past c.write_out.new.disk) c.in_ok-roll_back.ensures.works put
+
+pub returns-in-Err-fill_pool-clause-failed_works : goal.returns-in-Err-fill_pool-clause-failed_works
+returns-in-Err-fill_pool-clause-failed_works g c =
+    let past = g.D.Disk.past in
+    let config = c.args.config.now in
+    let v = c.in_ok-roll_back.ensures.ok c.requires.valid.0 c.requires.valid.2 c.requires.valid.1 in
+    let first = c.args.pool.now.highest in
+    let mid = c.roll_back.new.pool.highest in
+    let put = put_to true c.roll_back.new.tail.file.name config.file_size mid (past c.roll_back.new.disk) (past c.write_out.new.disk) (ap (λ (f : PoolFile). f.name) c.in_ok-roll_back.ensures.named) v.sound.parts.numbers (c.write_out.ensures.works config.file_size mid) in
+    let filled = subst (λ (k : Config). WorkedTo false k.file_size (mid + 1) mid c.fill_pool.new.pool.highest (past c.write_out.new.disk) (past c.fill_pool.new.disk)) v.sound.parts.same_config c.in-Err-fill_pool.ensures.failed_works in
+    to_and_then false config.file_size first mid c.fill_pool.new.pool.highest (past c.args.disk.now) (past c.write_out.new.disk) (past c.fill_pool.new.disk)
+    (to_and_then true config.file_size first mid mid (past c.args.disk.now) (past c.roll_back.new.disk) (past c.write_out.new.disk) c.in_ok-roll_back.ensures.works put)
+    (further_to false config.file_size mid c.fill_pool.new.pool.highest (past c.write_out.new.disk) (past c.fill_pool.new.disk) filled)
+
+-- the file in use is that of the last append, and the pool has no further one
+pub returns-in-Err-clause-failed_most : goal.returns-in-Err-clause-failed_most
+returns-in-Err-clause-failed_most g c =
+    let lists = g.C.Chronicle.lists in
+    let first = c.args.tail.now.file.id in
+    let p = c.roll_back.new.pool in
+    let t = c.roll_back.new.tail in
+    let P : List Step → Type 0 = λ ss. let last = file_of_last first (history_of ss) in (p.highest ≡ last) ⊎ ((last ≤ p.highest) × (c.args.files + (p.highest + 2 - first) ≤ c.args.config.now.min_files)) in
+    steps_so P (lists c.roll_back.new.chronicle) (lists c.write_out.new.chronicle) (same_steps _ c.roll_back.new.tail.appended _ (lists c.roll_back.new.chronicle) (lists c.write_out.new.chronicle) c.write_out.ensures.receipt)
+    (if_some (λ l. EndsIn first (history_of l.steps) t.file.id (end_of_tail t)) (λ l. P l.steps) (lists c.roll_back.new.chronicle) (λ l ends. inl (c.in_ok-roll_back.ensures.begun.1 ∙ ends.0)) c.in_ok-roll_back.ensures.ends)
+
+pub returns-in_err-roll_back-clause-failed_most : goal.returns-in_err-roll_back-clause-failed_most
+returns-in_err-roll_back-clause-failed_most g c =
+    let first = c.args.tail.now.file.id in
+    let p = c.roll_back.new.pool in
+    let P : List Step → Type 0 = λ ss. let last = file_of_last first (history_of ss) in (p.highest ≡ last) ⊎ ((last ≤ p.highest) × (c.args.files + (p.highest + 2 - first) ≤ c.args.config.now.min_files)) in
+    on_err _ (IfSome (g.C.Chronicle.lists c.roll_back.new.chronicle) (λ l. P l.steps)) (if_some (λ l. p.highest ≡ file_of_last first (history_of l.steps)) (λ l. P l.steps) (g.C.Chronicle.lists c.roll_back.new.chronicle) (λ l is. inl is) c.in_err-roll_back.ensures.failed_last)
+
+-- further files are asked for
+pub returns-in-Err-fill_pool-clause-failed_most : goal.returns-in-Err-fill_pool-clause-failed_most
+returns-in-Err-fill_pool-clause-failed_most g c =
+    let lists = g.C.Chronicle.lists in
+    let first = c.args.tail.now.file.id in
+    let p = c.roll_back.new.pool in
+    let q = c.fill_pool.new.pool in
+    let t = c.roll_back.new.tail in
+    let same : c.write_out.new.tail.file.id ≡ t.file.id = ap (λ (u : Tail). u.file.id) c.in_default.ensures.ok in
+    let few = c.in-Err-fill_pool.ensures.few in
+    let P : List Step → Type 0 = λ ss. let last = file_of_last first (history_of ss) in (q.highest ≡ last) ⊎ ((last ≤ q.highest) × (c.args.files + (q.highest + 2 - first) ≤ c.args.config.now.min_files)) in
+    steps_so P (lists c.roll_back.new.chronicle) (lists c.write_out.new.chronicle) (same_steps _ c.roll_back.new.tail.appended _ (lists c.roll_back.new.chronicle) (lists c.write_out.new.chronicle) c.write_out.ensures.receipt)
+    (if_some (λ l. EndsIn first (history_of l.steps) t.file.id (end_of_tail t)) (λ l. P l.steps) (lists c.roll_back.new.chronicle)
+    (λ l ends. inr (omega (arith, ends.0, c.in_ok-roll_back.ensures.begun.1, c.fill_pool.ensures.more), omega (arith, few, same, c.in_ok-roll_back.ensures.begun.1, c.in_ok-roll_back.ensures.later_file))) c.in_ok-roll_back.ensures.ends)

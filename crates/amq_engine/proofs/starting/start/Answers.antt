@@ -1,4 +1,4 @@
-use Rattle.std.proofs.Common.{◌≡◌, ◌⊎◌, inl, ℕ, ◌+◌, ◌-◌, ◌^◌, List, [], length, refl, sym, ap, subst, ◌∙◌, rules, true, ◌≤◌, ◌<◌, arith}
+use Rattle.std.proofs.Common.{◌≡◌, ◌⊎◌, inl, inr, false, ℕ, ◌+◌, ◌-◌, ◌^◌, List, [], length, refl, sym, ap, subst, ◌∙◌, rules, true, arith}
 use Rattle.std.specs.Prelude.{Err, IfErr, IfSome, min, take}
 use Rattle.amq_model.specs.declared.history.Step.{Step}
 use Rattle.amq_model.specs.Answers.{history_of}
@@ -21,8 +21,9 @@ use Rattle.amq_engine.proofs.Rollbacks.{both_so, placed_all, told_rollbacks}
 use Rattle.amq_engine.proofs.Started.{told_filled, valid_base, valid_rolled_back, valid_appended, valid_noted, valid_spent, on_err, same_base, roll_cause, unblank}
 use Rattle.amq_pool.specs.declared.pool.PoolFile.{PoolFile}
 use Rattle.amq_pool.specs.Pools.{numbered_file}
-use Rattle.amq_engine.specs.DataFiles.{WorkedTo, SyncsAllBut, IsRenewed}
-use Rattle.amq_engine.proofs.OpenedFiles.{opened_works, enough_by}
+use Rattle.amq_engine.specs.DataFiles.{WorkedTo, SyncsAllBut, IsRenewed, HasFailedFiles, HasFilesSoFar}
+use Rattle.amq_engine.proofs.OpenedFiles.{opened_works, enough_by, failed_has}
+use Rattle.amq_engine.proofs.JournalFiles.{opened_so_far}
 use Rattle.amq_engine.proofs.Counting.{count_told}
 use Rattle.amq_engine.proofs.starting.start.Goals as goal
 
@@ -233,7 +234,60 @@ returns-clause-opened_files g c =
       had = begun.4;
       begun = omega (arith, ap (λ (f : PoolFile). f.id) begun.1, c.in_ok-complete.ensures.later_file, c.in_ok-complete.ensures.filled.0);
       works = done;
-      count = count_told (SyncsAllBut (IsRenewed begun.0 highest)) config.file_size files begun.0 highest (past c.args.disk.now) (past c.complete.new.disk) (omega (arith, to.3.least, to.3.within, to.2 refl)) (omega (arith, valid.sound.parts.numbers)) begun.4 done;
+      count = count_told (SyncsAllBut (IsRenewed (past c.args.disk.now) begun.0 highest)) config.file_size files begun.0 highest (past c.args.disk.now) (past c.complete.new.disk) (omega (arith, to.worked.least, to.worked.within, to.all refl)) (omega (arith, valid.sound.parts.numbers)) begun.4 done;
       enough = enough_by config files begun.0 first tail.file.id highest (min (config.min_files - (files + (tail.file.id + 1 - first))) (2 ^ 31 - 1 - tail.file.id)) (ap (λ (f : PoolFile). f.id) begun.1) c.in_ok-complete.ensures.later_file valid.sound.parts.numbers refl c.in_ok-complete.ensures.filled.0;
       most = valid.sound.parts.numbers;
     }
+
+-- nothing was asked
+pub returns-in_default-clause-failed_files : goal.returns-in_default-clause-failed_files
+returns-in_default-clause-failed_files g c =
+    let past = g.D.Disk.past c.args.disk.now in
+    if_some IsBlank (λ l. HasFailedFiles c.args.config.now (history_of l.steps) past past) (g.C.Chronicle.lists c.args.chronicle.now) (λ l blank. inl (syncs_none past)) c.requires.blank
+
+pub returns-in_err-table-clause-failed_files : goal.returns-in_err-table-clause-failed_files
+returns-in_err-table-clause-failed_files g c =
+    let past = g.D.Disk.past in
+    let config = c.args.config.now in
+    let lists = g.C.Chronicle.lists c.begin.new.chronicle in
+    on_err _ (IfSome lists (λ l. HasFailedFiles config (history_of l.steps) (past c.args.disk.now) (past c.begin.new.disk)))
+    (if_some (λ l. l.steps ≡ []) (λ l. HasFailedFiles config (history_of l.steps) (past c.args.disk.now) (past c.begin.new.disk)) lists
+    (λ l none. subst (λ (steps : List Step). HasFailedFiles config (history_of steps) (past c.args.disk.now) (past c.begin.new.disk)) (sym none) c.in_err-table.ensures.failed_files) c.begin.ensures.unstepped)
+
+pub returns-in_err-complete-clause-failed_files : goal.returns-in_err-complete-clause-failed_files
+returns-in_err-complete-clause-failed_files g c =
+    let past = g.D.Disk.past in
+    let config = c.args.config.now in
+    let begun = c.in_ok-table.ensures.begun in
+    let first = c.in_ok-table.field-0.file.id in
+    let files = c.in_ok-table.field-0.files in
+    let lists = g.C.Chronicle.lists c.complete.new.chronicle in
+    let reached = c.complete.new.pool.highest in
+    let at : first ≡ begun.0 + 1 = ap (λ (f : PoolFile). f.id) begun.1 in
+    let to = subst (λ (n : ℕ). WorkedTo false config.file_size n n reached (past c.begin.new.disk) (past c.complete.new.disk)) begun.2 c.in_err-complete.ensures.failed_works in
+    on_err _ (IfSome lists (λ l. HasFailedFiles config (history_of l.steps) (past c.args.disk.now) (past c.complete.new.disk)))
+    (if_some _ (λ l. HasFailedFiles config (history_of l.steps) (past c.args.disk.now) (past c.complete.new.disk)) lists
+    (λ l most. inr (failed_has config (history_of l.steps) files begun.0 first reached (past c.args.disk.now) (past c.begin.new.disk) (past c.complete.new.disk) at begun.4 begun.5 to most)) c.in_err-complete.ensures.failed_most)
+
+pub returns-clause-journal_files : goal.returns-clause-journal_files
+returns-clause-journal_files g c =
+    let past = g.D.Disk.past in
+    let config = c.args.config.now in
+    let began = c.in_ok-table.ensures.valid c.in-Ok.buffer c.in-Ok.ensures in
+    let txs = c.as_slice.result.now in
+    let same : txs ≡ rolled_back began.0 = c.as_slice.ensures.value ∙ began.2 in
+    let valid = c.in_ok-complete.ensures.ok began.0 same began.1 in
+    let begun = c.in_ok-table.ensures.begun in
+    let first = c.in_ok-table.field-0.file.id in
+    let files = c.in_ok-table.field-0.files in
+    let tail = c.complete.new.tail in
+    let highest = c.complete.new.pool.highest in
+    let lists = g.C.Chronicle.lists c.complete.new.chronicle in
+    let n = min (config.min_files - (files + (tail.file.id + 1 - first))) (2 ^ 31 - 1 - tail.file.id) in
+    let at : first ≡ begun.0 + 1 = ap (λ (f : PoolFile). f.id) begun.1 in
+    let to = subst (λ (n : ℕ). WorkedTo true config.file_size n n highest (past c.begin.new.disk) (past c.complete.new.disk)) begun.2 c.in_ok-complete.ensures.works in
+    let enough = enough_by config files begun.0 first tail.file.id highest n at c.in_ok-complete.ensures.later_file valid.sound.parts.numbers refl c.in_ok-complete.ensures.filled.0 in
+    let placed = both_so (λ ss. history_of ss ≡ take (length ss) (rollbacks_behind config first 16 txs)) (λ ss. length ss ≡ length txs) (λ ss. history_of ss ≡ rollbacks_behind config first 16 txs) lists (λ ss front all. placed_all config first txs ss front all) c.complete.ensures.placed c.in_ok-complete.ensures.all in
+    let ends = both_so (λ ss. history_of ss ≡ rollbacks_behind config first 16 txs) (λ ss. EndsIn first (history_of ss) tail.file.id (end_of_tail tail)) (λ ss. (history_of ss ≡ rollbacks_behind config first 16 txs) × EndsIn first (history_of ss) tail.file.id (end_of_tail tail)) lists (λ ss p e. (p, e)) placed c.in_ok-complete.ensures.ends in
+    if_some (λ l. (history_of l.steps ≡ rollbacks_behind config first 16 txs) × EndsIn first (history_of l.steps) tail.file.id (end_of_tail tail)) (λ l. HasFilesSoFar true config tail.file.id (end_of_tail tail) highest l (past c.args.disk.now) (past c.complete.new.disk)) lists
+    (λ l both. opened_so_far config files begun.0 first tail.file.id (end_of_tail tail) highest n txs l (past c.args.disk.now) (past c.begin.new.disk) (past c.complete.new.disk) at begun.4 begun.5 to c.in_ok-complete.ensures.later_file c.in_ok-complete.ensures.filled.0 refl enough both.0 both.1) ends

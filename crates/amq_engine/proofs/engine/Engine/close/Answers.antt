@@ -5,7 +5,9 @@ use Rattle.amq_tx.specs.Tables.{state_of}
 use Rattle.amq_model.specs.declared.config.Config.{Config}
 use Rattle.amq_model.specs.Answers.{history_of}
 use Rattle.amq_model.specs.Leaves.{Told}
-use Rattle.amq_engine.specs.DataFiles.{HasSameFiles, HasId, LeavesAllBut}
+use Rattle.amq_engine.specs.DataFiles.{HasSameFiles, HasId, LeavesAllBut, HasFilesOf, HasFilesSoFar}
+use Rattle.amq_engine.proofs.Receipts.{if_some}
+use Rattle.amq_engine.proofs.JournalFiles.{flushed_config}
 use Rattle.amq_engine.specs.Directory.{IsJournal}
 use Rattle.amq_engine.specs.Receipts.{GoesOn}
 use Rattle.amq_engine.proofs.Closed.{when_ok, sound_journal}
@@ -34,3 +36,14 @@ returns-clause-spares g c = subst (λ d. LeavesAllBut (HasId c.args.self.file) (
 
 pub returns-clause-files : goal.returns-clause-files
 returns-clause-files g c = subst (λ d. Told (g.D.Disk.past c.args.self.disk) (λ o. Told (g.D.Disk.past d) (HasSameFiles o))) (sym (ap (λ v. v.disk) c.self.view_is)) c.flush-outcome.ensures.files
+
+pub returns-clause-journal_files : goal.returns-clause-journal_files
+returns-clause-journal_files g c done first is =
+    let past = g.D.Disk.past in
+    let lists = g.C.Chronicle.lists in
+    let e = c.self.inside in
+    let v = c.flush-outcome.new.self in
+    let config : v.config ≡ c.args.self.config = flushed_config c.flush-outcome.result c.args.self v c.flush-outcome.ensures.ok c.flush-outcome.ensures.err in
+    subst (λ w. IfSome (lists w.chronicle) (λ l. HasFilesOf done c.args.self.config (history_of l.steps) first (past w.disk))) (sym c.self.view_is)
+    (subst (λ (k : Config). IfSome (lists v.chronicle) (λ l. HasFilesOf done k (history_of l.steps) first (past v.disk))) config
+    (if_some (λ l. HasFilesSoFar done v.config v.file v.end v.highest l first (past v.disk)) (λ l. HasFilesOf done v.config (history_of l.steps) first (past v.disk)) (lists v.chronicle) (λ l f. f.files) (c.flush-outcome.ensures.journal_files done first is)))

@@ -1,8 +1,8 @@
-use Rattle.std.proofs.Common.{◌≡◌, ◌⊎◌, inl, inr, ⊎_elim, ◌+◌, ◌-◌, ◌^◌, ◌<◌, ◌≤◌, ℕ, Bool, true, cond, length, List, [], ◌++◌, Option, None, refl, sym, ap, subst, ◌∙◌, arith}
+use Rattle.std.proofs.Common.{◌≡◌, ◌⊎◌, inl, inr, ⊎_elim, ◌+◌, ◌-◌, ◌^◌, ◌<◌, ◌≤◌, ℕ, Bool, true, false, cond, length, List, [], ◌++◌, Option, None, refl, sym, ap, subst, ◌∙◌, arith}
 use Rattle.std.specs.Prelude.{IfSome, IsSome, option_map, ◌||◌, ◌&&◌, is_some, nat_lt, Ok, Err, IsTrue}
 use Rattle.amq_model.specs.Calls.{counted}
 use Rattle.amq_model.specs.Answers.{record_of, history_of, refusal}
-use Rattle.amq_model.specs.Legal.{number_for, rolled_back}
+use Rattle.amq_model.specs.Legal.{number_for}
 use Rattle.amq_model.specs.declared.command.Reply.{Reply}
 use Rattle.amq_model.specs.declared.refusal.Refusal.{Refusal}
 use Rattle.amq_model.specs.declared.record.Record.{Record}
@@ -17,7 +17,7 @@ use Rattle.amq_pool.specs.Pools.{PoolOf, ids_of}
 use Rattle.amq_engine.specs.declared.tail.Tail.{Tail}
 use Rattle.amq_engine.specs.Lists.{Lists, with_step, steps_in}
 use Rattle.amq_engine.specs.Receipts.{GoesOn}
-use Rattle.amq_engine.specs.Engine.{IsChronicle, opened, IsSound, IsValid, Parts, IsReply, Notes, receipted, flushes, passes, spent, end_of_tail, readied, pool_readied, with_put, reply_of, placed_behind, fault_refusal, refused, record_len, prepares, writes_first, is_nil}
+use Rattle.amq_engine.specs.Engine.{is_noted, IsChronicle, opened, IsSound, IsValid, Parts, IsReply, Notes, receipted, flushes, passes, spent, end_of_tail, readied, pool_readied, with_put, reply_of, placed_behind, fault_refusal, refused, record_len, prepares, writes_first, is_nil}
 use Rattle.amq_engine.proofs.Sound.{sound_there, sound_within}
 use Rattle.amq_engine.proofs.Flushing.{written_durable, seen}
 use Rattle.amq_engine.proofs.Accepting.{written_first, reply_is, seen_accepted, values_of, not_closed}
@@ -32,11 +32,12 @@ use Rattle.amq_engine.specs.Opening.{StandsFrom}
 use Rattle.amq_model.specs.Leaves.{Told, SparesAllBut}
 use Rattle.amq_model.specs.declared.config.Config.{Config}
 use Rattle.amq_model.specs.Files.{Files}
-use Rattle.amq_engine.specs.DataFiles.{HasFilesMade, HasSameFiles, HasId, IsPreparing, IsUsedOrNew, LeavesAllBut, IsCommandFile}
-use Rattle.amq_engine.proofs.DataFiles.{worked_works}
+use Rattle.amq_engine.specs.DataFiles.{HasFilesMade, HasSameFiles, HasId, IsPreparing, IsUsedOrNew, LeavesAllBut, IsCommandFile, HasFilesSoFar}
+use Rattle.amq_engine.proofs.DataFiles.{worked_works, most_by, most_limit}
+use Rattle.amq_engine.proofs.JournalFiles.{so_far_call, so_far_still, none_steps, none_mapped, used_within, readied_numbers, unreadied_numbers, put_file}
 use Rattle.amq_engine.proofs.FilesTold.{sound_start, sound_used, leaves_told, still_alone, same_failed, touched_by, failed_told, readied_most}
 use Rattle.amq_loader.specs.Loads.{IsTidy}
-use Rattle.amq_engine.proofs.Leaving.{writes_by, fault_unnoted}
+use Rattle.amq_engine.proofs.Leaving.{writes_by, fault_unnoted, fault_noted}
 use Rattle.amq_engine.proofs.engine.Engine.command.Goals as goal
 
 pub returns-in-Some-clause-chronicle : goal.returns-in-Some-clause-chronicle
@@ -633,3 +634,85 @@ returns-clause-files g c =
     subst (λ v. Told (past v.disk) (λ o. Told (past c.ready.new.disk) (HasFilesMade v.config.file_size v.highest c.ready.new.pool.highest o))) c.self.view_is
     (subst (λ (k : Config). Told (past e.disk) (λ o. Told (past c.ready.new.disk) (HasFilesMade k.file_size h c.ready.new.pool.highest o))) c.self.invariant.sound.parts.same_config
     (subst (λ (n : ℕ). Told (past e.disk) (λ o. Told (past c.ready.new.disk) (HasFilesMade e.pool.config.file_size h n o))) most (worked_works K e.pool.config.file_size h (cond b (h + 1) h) (past e.disk) (past c.ready.new.disk) c.in_default-ready.ensures.works).files))
+
+-- the data files, counted from an earlier call on
+pub returns-in-Some-clause-journal_files : goal.returns-in-Some-clause-journal_files
+returns-in-Some-clause-journal_files g c done first =
+    let e = c.self.inside in
+    let past = g.D.Disk.past in
+    let lists = g.C.Chronicle.lists in
+    subst (λ v. IfSome (lists v.chronicle) (λ l. HasFilesSoFar done v.config v.file v.end v.highest l first (past v.disk)) → IfSome (lists v.chronicle) (λ l. HasFilesSoFar (done && false) v.config v.file v.end v.highest l first (past v.disk))) c.self.view_is
+    (so_far_still done first (past e.disk) (lists e.chronicle) (g.C.Chronicle.receipt_room e.chronicle) e.config (state_of e.table) e.pool e.tail c.self.invariant.ranges c.self.invariant.sound (lists e.chronicle) (λ none. none) false (λ from stands. stands))
+
+pub returns-in-Err-clause-journal_files : goal.returns-in-Err-clause-journal_files
+returns-in-Err-clause-journal_files g c done first =
+    let e = c.self.inside in
+    let past = g.D.Disk.past in
+    let lists = g.C.Chronicle.lists in
+    let same = ap steps_in c.room_for.ensures.lists in
+    subst (λ v. IfSome (lists v.chronicle) (λ l. HasFilesSoFar done v.config v.file v.end v.highest l first (past v.disk)) → IfSome (lists c.room_for.new.chronicle) (λ l. HasFilesSoFar (done && false) e.config e.tail.file.id (end_of_tail e.tail) e.pool.highest l first (past e.disk))) c.self.view_is
+    (so_far_still done first (past e.disk) (lists e.chronicle) (g.C.Chronicle.receipt_room e.chronicle) e.config (state_of e.table) e.pool e.tail c.self.invariant.ranges c.self.invariant.sound (lists c.room_for.new.chronicle) (none_steps (lists e.chronicle) (lists c.room_for.new.chronicle) same) false
+    (λ from stands. stands_same e.config from e.tail.file.id (end_of_tail e.tail) e.tail.file.id (end_of_tail e.tail) (lists e.chronicle) (lists c.room_for.new.chronicle) same refl refl stands))
+
+pub returns-in-Some-refusal_of-clause-journal_files : goal.returns-in-Some-refusal_of-clause-journal_files
+returns-in-Some-refusal_of-clause-journal_files g c done first =
+    let e = c.self.inside in
+    let past = g.D.Disk.past in
+    let lists = g.C.Chronicle.lists in
+    let same = ap steps_in c.room_for.ensures.lists in
+    let noted = is_noted (Err c.in-Some-refusal_of.refusal) in
+    subst (λ v. IfSome (lists v.chronicle) (λ l. HasFilesSoFar done v.config v.file v.end v.highest l first (past v.disk)) → IfSome (lists c.step.new.self) (λ l. HasFilesSoFar (done && noted) e.config e.tail.file.id (end_of_tail e.tail) e.pool.highest l first (past e.disk))) c.self.view_is
+    (so_far_still done first (past e.disk) (lists e.chronicle) (g.C.Chronicle.receipt_room e.chronicle) e.config (state_of e.table) e.pool e.tail c.self.invariant.ranges c.self.invariant.sound (lists c.step.new.self)
+    (λ none. none_mapped _ (lists c.room_for.new.chronicle) (lists c.step.new.self) c.step.ensures.noted (none_steps (lists e.chronicle) (lists c.room_for.new.chronicle) same none)) noted
+    (λ from stands. stands_bare e.config from e.tail.file.id (end_of_tail e.tail) e.tail.file.id (end_of_tail e.tail) (lists c.room_for.new.chronicle) (lists c.step.new.self) _ refl c.step.ensures.noted refl refl
+    (stands_same e.config from e.tail.file.id (end_of_tail e.tail) e.tail.file.id (end_of_tail e.tail) (lists e.chronicle) (lists c.room_for.new.chronicle) same refl refl stands)))
+
+pub returns-in-Err-ready-clause-journal_files : goal.returns-in-Err-ready-clause-journal_files
+returns-in-Err-ready-clause-journal_files g c done first =
+    let e = c.self.inside in
+    let past = g.D.Disk.past in
+    let lists = g.C.Chronicle.lists in
+    let t = c.ready.new.tail in
+    let h = e.pool.highest in
+    let b = c.passes-moves.result && is_nil e.pool.prepared in
+    let sound = c.self.invariant.sound in
+    let same = steps_failed (c.passes-moves.result ≡ true) (e.pool.prepared ≡ []) (g.D.Disk.moment e.disk) e.tail t (lists c.room_for.new.chronicle) (lists c.ready.new.chronicle) c.in-Err-ready.ensures.err ∙ ap steps_in c.room_for.ensures.lists in
+    let at = failed_end (c.passes-moves.result ≡ true) (e.pool.prepared ≡ []) (g.D.Disk.moment e.disk) e.tail t (lists c.room_for.new.chronicle) (lists c.ready.new.chronicle) c.in-Err-ready.ensures.err in
+    let pool : c.ready.new.pool.highest ≡ h = ap (λ (p : PoolOf). p.highest) c.in-Err-ready.ensures.same_pool in
+    let most : cond b (h + 1) h ≤ 2 ^ 31 - 1 = most_limit c.passes-moves.result e.pool sound.parts.numbers (λ moving none. numbers_left e.config (refusal_in (state_of c.room_for.new.table) c.args.command) c.passes-moves.result e.pool.highest (ids_of e.pool.prepared) c.args.command (sym c.in_default-refusal_of.ensures.first) moving (ap ids_of none)) in
+    let needs = ⊎_elim (λ (le : cond b (h + 1) h ≤ h). inl le) (λ (le : h + 1 ≤ e.tail.file.id + 1). inr (omega (arith, le, at.0))) (unreadied_numbers e.config (state_of e.table) e.pool e.tail sound.parts c.passes-moves.result) in
+    subst (λ (n : Bool). IfSome (lists c.args.self.now.chronicle) (λ l. HasFilesSoFar done c.args.self.now.config c.args.self.now.file c.args.self.now.end c.args.self.now.highest l first (past c.args.self.now.disk)) → IfSome (lists c.ready.new.chronicle) (λ l. HasFilesSoFar (done && n) e.config t.file.id (end_of_tail t) c.ready.new.pool.highest l first (past c.ready.new.disk))) (sym (fault_noted c.in-Err-ready.fault c.close_after.result c.close_after.ensures.refusal))
+    (subst (λ v. IfSome (lists v.chronicle) (λ l. HasFilesSoFar done v.config v.file v.end v.highest l first (past v.disk)) → IfSome (lists c.ready.new.chronicle) (λ l. HasFilesSoFar (done && false) e.config t.file.id (end_of_tail t) c.ready.new.pool.highest l first (past c.ready.new.disk))) c.self.view_is
+    (so_far_call done first (past e.disk) (lists e.chronicle) (g.C.Chronicle.receipt_room e.chronicle) e.config (state_of e.table) e.pool e.tail c.self.invariant.ranges sound (lists c.ready.new.chronicle) (none_steps (lists e.chronicle) (lists c.ready.new.chronicle) same) false (past c.ready.new.disk) t.file.id (end_of_tail t) c.ready.new.pool.highest (cond b (h + 1) h) c.in-Err-ready.ensures.failed_works
+    (most_by b h).1 most (omega (arith, pool)) (λ d. absurd (no_true d)) (λ d. pool) (omega (arith, at.0)) (omega (arith, at.0, pool, used_within e.config (state_of e.table) e.pool e.tail sound.parts)) needs
+    (λ from stands. stands_same e.config from e.tail.file.id (end_of_tail e.tail) t.file.id (end_of_tail t) (lists e.chronicle) (lists c.ready.new.chronicle) same at.0 at.1 stands)))
+  where
+    no_true : {A : Type 0} → false ≡ true → A
+    no_true e = absurd cc
+
+pub returns-clause-journal_files : goal.returns-clause-journal_files
+returns-clause-journal_files g c done first =
+    let e = c.self.inside in
+    let past = g.D.Disk.past in
+    let lists = g.C.Chronicle.lists in
+    let r = c.ready.new.tail in
+    let t = c.put_record-reply.new.tail in
+    let h = e.pool.highest in
+    let m = c.passes-moves.result in
+    let b = m && is_nil e.pool.prepared in
+    let sound = c.self.invariant.sound in
+    let highest : c.ready.new.pool.highest ≡ (pool_readied m e.pool).highest = ap (λ (p : PoolOf). p.highest) c.in_default-ready.ensures.pool in
+    let most : cond b (h + 1) h ≡ c.ready.new.pool.highest = sym (highest ∙ readied_most m e.pool) in
+    let flushes_it = flushes e.tail.buffer.capacity (length e.tail.buffer.bytes) c.args.command in
+    let file : t.file.id ≡ (readied m flushes_it e.pool e.tail).file.id = put_file _ _ r t c.put_record-reply.ensures.tail ∙ ap (λ (u : Tail). u.file.id) c.in_default-ready.ensures.ok in
+    let n = readied_numbers e.config (state_of e.table) e.pool e.tail sound.parts m flushes_it in
+    let low : cond b (h + 1) h ≤ 2 ^ 31 - 1 = most_limit m e.pool sound.parts.numbers (λ moving none. numbers_left e.config (refusal_in (state_of c.room_for.new.table) c.args.command) c.passes-moves.result e.pool.highest (ids_of e.pool.prepared) c.args.command (sym c.in_default-refusal_of.ensures.first) moving (ap ids_of none)) in
+    let needs = ⊎_elim (λ (le : cond b (h + 1) h ≤ h). inl le) (λ (le : h + 1 ≤ (readied m flushes_it e.pool e.tail).file.id). inr (omega (arith, le, file))) n.3 in
+    let same : steps_in (lists c.ready.new.chronicle) ≡ steps_in (lists e.chronicle) = same_steps _ e.tail.appended _ (lists c.room_for.new.chronicle) (lists c.ready.new.chronicle) c.in_default-ready.ensures.receipt ∙ ap steps_in c.room_for.ensures.lists in
+    let stands = returns-clause-stands g c in
+    λ is. (subst (λ v. ((from : ℕ) → IfSome (lists v.chronicle) (StandsFrom v.config from v.file v.end) → IfSome (lists c.step-2.new.self) (StandsFrom e.config from t.file.id (end_of_tail t))) → IfSome (lists v.chronicle) (λ l. HasFilesSoFar done v.config v.file v.end v.highest l first (past v.disk)) → IfSome (lists c.step-2.new.self) (λ l. HasFilesSoFar (done && true) e.config t.file.id (end_of_tail t) c.ready.new.pool.highest l first (past c.ready.new.disk))) c.self.view_is
+    (λ stand. so_far_call done first (past e.disk) (lists e.chronicle) (g.C.Chronicle.receipt_room e.chronicle) e.config (state_of e.table) e.pool e.tail c.self.invariant.ranges sound (lists c.step-2.new.self) (λ none. none_mapped _ (lists c.ready.new.chronicle) (lists c.step-2.new.self) c.step-2.ensures.noted (none_steps (lists e.chronicle) (lists c.ready.new.chronicle) same none)) true (past c.ready.new.disk) t.file.id (end_of_tail t) c.ready.new.pool.highest (cond b (h + 1) h) c.in_default-ready.ensures.works
+    (most_by b h).1 low (omega (arith, highest, n.2)) (λ d. most) (λ d. absurd (no_false d)) (omega (arith, file, n.0)) (omega (arith, file, highest, n.1)) needs stand)) stands is
+  where
+    no_false : {A : Type 0} → true ≡ false → A
+    no_false e = absurd cc

@@ -15,6 +15,8 @@ use Rattle.amq_engine.proofs.Owing.{more_appended}
 use Rattle.amq_engine.specs.Opening.{StandsFrom}
 use Rattle.amq_engine.proofs.Places.{stands_same, flushed_end}
 use Rattle.amq_engine.proofs.Rollbacks.{same_steps}
+use Rattle.amq_engine.specs.DataFiles.{HasFilesSoFar}
+use Rattle.amq_engine.proofs.JournalFiles.{so_far_wrote, none_steps}
 use Rattle.amq_engine.proofs.engine.Engine.flush.Goals as goal
 
 pub returns-in-Some-clause-chronicle : goal.returns-in-Some-clause-chronicle
@@ -170,3 +172,30 @@ returns-in-Err-clause-files g c =
     let e = c.self.inside in
     subst (λ v. Told (g.D.Disk.past v.disk) (λ o. Told (g.D.Disk.past c.write_out.new.disk) (HasSameFiles o))) c.self.view_is
     (works_same (SparesAllBut (λ n. n ≡ e.tail.file.name)) 0 0 (g.D.Disk.past e.disk) (g.D.Disk.past c.write_out.new.disk) (c.write_out.ensures.works 0 0))
+
+pub returns-in-Some-clause-journal_files : goal.returns-in-Some-clause-journal_files
+returns-in-Some-clause-journal_files g c done first is = is
+
+pub returns-in-Ok-clause-journal_files : goal.returns-in-Ok-clause-journal_files
+returns-in-Ok-clause-journal_files g c done first =
+    let e = c.self.inside in
+    let past = g.D.Disk.past in
+    let lists = g.C.Chronicle.lists in
+    let t = c.write_out.new.tail in
+    let at = flushed_end e.tail t c.in-Ok.ensures.ok in
+    let steps = same_steps _ e.tail.appended _ (lists e.chronicle) (lists c.write_out.new.chronicle) c.write_out.ensures.receipt in
+    subst (λ v. IfSome (lists v.chronicle) (λ l. HasFilesSoFar done v.config v.file v.end v.highest l first (past v.disk)) → IfSome (lists c.write_out.new.chronicle) (λ l. HasFilesSoFar done e.config t.file.id (end_of_tail t) e.pool.highest l first (past c.write_out.new.disk))) c.self.view_is
+    (so_far_wrote done first (past e.disk) (lists e.chronicle) (g.C.Chronicle.receipt_room e.chronicle) e.config (state_of e.table) e.pool e.tail c.self.invariant.ranges c.self.invariant.sound (lists c.write_out.new.chronicle) (none_steps (lists e.chronicle) (lists c.write_out.new.chronicle) steps) (past c.write_out.new.disk) t.file.id (end_of_tail t)
+    (c.write_out.ensures.works e.pool.config.file_size e.pool.highest) at.0 (λ from stands. stands_same e.config from e.tail.file.id (end_of_tail e.tail) t.file.id (end_of_tail t) (lists e.chronicle) (lists c.write_out.new.chronicle) steps at.0 at.1 stands))
+
+pub returns-in-Err-clause-journal_files : goal.returns-in-Err-clause-journal_files
+returns-in-Err-clause-journal_files g c done first =
+    let e = c.self.inside in
+    let past = g.D.Disk.past in
+    let lists = g.C.Chronicle.lists in
+    let t = c.write_out.new.tail in
+    let is : t ≡ e.tail = c.in-Err.ensures.same in
+    let steps = same_steps _ e.tail.appended _ (lists e.chronicle) (lists c.write_out.new.chronicle) c.write_out.ensures.receipt in
+    subst (λ v. IfSome (lists v.chronicle) (λ l. HasFilesSoFar done v.config v.file v.end v.highest l first (past v.disk)) → IfSome (lists c.write_out.new.chronicle) (λ l. HasFilesSoFar done e.config t.file.id (end_of_tail t) e.pool.highest l first (past c.write_out.new.disk))) c.self.view_is
+    (so_far_wrote done first (past e.disk) (lists e.chronicle) (g.C.Chronicle.receipt_room e.chronicle) e.config (state_of e.table) e.pool e.tail c.self.invariant.ranges c.self.invariant.sound (lists c.write_out.new.chronicle) (none_steps (lists e.chronicle) (lists c.write_out.new.chronicle) steps) (past c.write_out.new.disk) t.file.id (end_of_tail t)
+    (c.write_out.ensures.works e.pool.config.file_size e.pool.highest) (ap (λ x. x.file.id) is) (λ from stands. stands_same e.config from e.tail.file.id (end_of_tail e.tail) t.file.id (end_of_tail t) (lists e.chronicle) (lists c.write_out.new.chronicle) steps (ap (λ x. x.file.id) is) (ap end_of_tail is) stands))

@@ -35,3 +35,6 @@ returns-in-Ok-clause-ends g c = c.in-Ok.ensures.ends
 
 pub returns-in-Err-clause-failed_owed : goal.returns-in-Err-clause-failed_owed
 returns-in-Err-clause-failed_owed g c = c.start.ensures.owed
+
+pub returns-in-Ok-clause-journal_files : goal.returns-in-Ok-clause-journal_files
+returns-in-Ok-clause-journal_files g c = c.in-Ok.ensures.journal_files

@@ -5,7 +5,7 @@ use Rattle.amq_model.specs.declared.refusal.Refusal.TheVariants.{Closed}
 use Rattle.amq_engine.specs.Receipts.{GoesOn}
 use Rattle.amq_engine.specs.Engine.{IsChronicle, end_of_tail}
 use Rattle.amq_model.specs.Leaves.{Told}
-use Rattle.amq_engine.specs.DataFiles.{HasSameFiles, HasId, LeavesAllBut}
+use Rattle.amq_engine.specs.DataFiles.{HasSameFiles, HasId, LeavesAllBut, HasFilesSoFar}
 use Rattle.amq_engine.proofs.FilesTold.{same_told, still_alone}
 use Rattle.amq_loader.specs.Loads.{IsTidy}
 use Rattle.amq_engine.proofs.Commanding.{valid_chronicle}
@@ -74,3 +74,20 @@ returns-then-due-clause-files g c = subst (λ v. Told (g.D.Disk.past v.disk) (λ
 
 pub returns-clause-files : goal.returns-clause-files
 returns-clause-files g c = subst (λ v. Told (g.D.Disk.past v.disk) (λ o. Told (g.D.Disk.past c.self.inside.disk) (HasSameFiles o))) c.self.view_is (same_told (g.D.Disk.past c.self.inside.disk))
+
+pub returns-in-Some-clause-journal_files : goal.returns-in-Some-clause-journal_files
+returns-in-Some-clause-journal_files g c done first is = is
+
+pub returns-then-due-clause-journal_files : goal.returns-then-due-clause-journal_files
+returns-then-due-clause-journal_files g c done first =
+    let past = g.D.Disk.past in
+    let lists = g.C.Chronicle.lists in
+    let t = c.flush.new.self in
+    subst (λ v. IfSome (lists v.chronicle) (λ l. HasFilesSoFar done v.config v.file v.end v.highest l first (past v.disk)) → IfSome (lists t.chronicle) (λ l. HasFilesSoFar done t.config t.file t.end t.highest l first (past t.disk))) c.self.view_is (c.flush.ensures.journal_files done first)
+
+pub returns-clause-journal_files : goal.returns-clause-journal_files
+returns-clause-journal_files g c done first =
+    let e = c.self.inside in
+    let past = g.D.Disk.past in
+    let lists = g.C.Chronicle.lists in
+    subst (λ v. IfSome (lists v.chronicle) (λ l. HasFilesSoFar done v.config v.file v.end v.highest l first (past v.disk)) → IfSome (lists e.chronicle) (λ l. HasFilesSoFar done e.config e.tail.file.id (end_of_tail e.tail) e.pool.highest l first (past e.disk))) c.self.view_is (λ is. is)
