@@ -1,5 +1,5 @@
 -- How a replay goes on by a line, and how it ends.
-use Rattle.std.proofs.Common.{◌≡◌, ◌⊎◌, inl, inr, ℕ, ◌<◌, ◌≤◌, Bool, true, false, List, [], ◌∷◌, ◌++◌, length, map, Option, None, Some, refl, sym, ap, subst, ◌∙◌, append_assoc, arith}
+use Rattle.std.proofs.Common.{◌≡◌, ◌⊎◌, inl, inr, ℕ, ◌≤◌, false, List, [], ◌∷◌, ◌++◌, length, map, Option, None, Some, refl, sym, ap, subst, ◌∙◌, append_assoc, arith}
 use Rattle.std.specs.Prelude.{All, Err, IsTrue, reverse}
 use Rattle.std.proofs.lemmas.List.{append-nil, length-append, length-map, length-take, map-append, take-append-le, take_all, reverse-append}
 use Rattle.std.proofs.lemmas.List.Elements.{All-head, All-tail}
@@ -95,34 +95,16 @@ module _ {D : Type 0} (timeout : ℕ) where
     is = is ∙ ap (λ (t : List ℕ). t ++ line_of (line, answer)) was.is ∙ sym (lines_more was.answered (line, answer));
   }
 
-  -- a line was answered, and there was no memory for its text
-  pub line_unwritten : (done : List Line) (line : Line) (answer : Option Answer) (labels labels' : List ℕ → ℕ) (number number' : ℕ) (old new : EngineOf D Kept) (before after : List ℕ) → HasPlayed timeout done labels number old before
-      → ((answered : List Answered) → AreNumbersOf labels answered → IsPlaying timeout answered number old → IsPlaying timeout (answered ++ (line, answer) ∷ []) number' new × AreNumbersOf labels' (answered ++ (line, answer) ∷ [])) → after ≡ before → 0 < length (line_of (line, answer))
-      → HasEnded timeout (done ++ line ∷ []) new.chronicle.steps.items new.chronicle.receipts.items after [] true
-  line_unwritten done line answer labels labels' number number' old new before after was goes is some =
-      let all : List Answered = was.answered ++ (line, answer) ∷ [] in
-      let lines : map (λ (x : Answered). x.0) all ≡ done ++ line ∷ [] = map-append (λ (x : Answered). x.0) was.answered ((line, answer) ∷ []) ∙ ap (λ (ls : List Line). ls ++ line ∷ []) was.lines in
-      record {
-        answered = all;
-        are = subst (λ (ls : List Line). AreAnswered timeout ls new.chronicle.steps.items new.chronicle.receipts.items all) (append-nil (done ++ line ∷ [])) (are_answered (done ++ line ∷ []) [] number' all new lines (goes was.answered was.labelled was.playing).0);
-        rest = line_of (line, answer);
-        is = ap (λ (t : List ℕ). t ++ line_of (line, answer)) (is ∙ was.is) ∙ sym (lines_more was.answered (line, answer)) ∙ sym (append-nil (reply_lines all));
-        whole = inl refl;
-        early = inl (refl, some);
-      }
-
   -- a line ended the replay
-  pub line_refused : (done : List Line) (line : Line) (labels : List ℕ → ℕ) (number : ℕ) (old new : EngineOf D Kept) (before after ending : List ℕ) (short : Bool) → HasPlayed timeout done labels number old before → HasNoStep old.durable old.appended (lists_of old.chronicle) (lists_of new.chronicle) → after ≡ before ++ ending
-      → HasEnded timeout (done ++ line ∷ []) new.chronicle.steps.items new.chronicle.receipts.items after ending short
-  line_refused done line labels number old new before after ending short was kept is =
+  pub line_refused : (done : List Line) (line : Line) (labels : List ℕ → ℕ) (number : ℕ) (old new : EngineOf D Kept) (before after ending : List ℕ) → HasPlayed timeout done labels number old before → HasNoStep old.durable old.appended (lists_of old.chronicle) (lists_of new.chronicle) → after ≡ before ++ ending
+      → HasEnded timeout (done ++ line ∷ []) new.chronicle.steps.items new.chronicle.receipts.items after ending
+  line_refused done line labels number old new before after ending was kept is =
       let are = are_answered done (line ∷ []) number was.answered old was.lines was.playing in
       record {
         answered = was.answered;
         are = answered_more timeout (done ++ line ∷ []) old.durable old.appended (lists_of old.chronicle) (lists_of new.chronicle) was.answered kept are;
-        rest = [];
-        is = append-nil after ∙ is ∙ ap (λ (t : List ℕ). t ++ ending) was.is;
-        whole = inr refl;
-        early = inr (omega (arith, sym (length-map was.answered (λ (x : Answered). x.0)) ∙ ap length was.lines, length-append done (line ∷ [])));
+        is = is ∙ ap (λ (t : List ℕ). t ++ ending) was.is;
+        early = omega (arith, sym (length-map was.answered (λ (x : Answered). x.0)) ∙ ap length was.lines, length-append done (line ∷ []));
       }
 
   -- all lines were answered
@@ -144,8 +126,8 @@ pub still_open : (closed : Option DiskCall) (call : DiskCall) → closed ≡ Non
 still_open closed call none is = let e : None ≡ Some call = sym none ∙ is in cc
 
 -- of a script that goes on
-pub ended_more : (timeout : ℕ) (front more : List Line) (steps : List Step) (receipts : List Receipted) (text ending : List ℕ) (short : Bool) → HasEnded timeout front steps receipts text ending short → HasEnded timeout (front ++ more) steps receipts text ending short
-ended_more timeout front more steps receipts text ending short e =
+pub ended_more : (timeout : ℕ) (front more : List Line) (steps : List Step) (receipts : List Receipted) (text ending : List ℕ) → HasEnded timeout front steps receipts text ending → HasEnded timeout (front ++ more) steps receipts text ending
+ended_more timeout front more steps receipts text ending e =
     let long : length e.answered ≤ length front = omega (arith, sym (length-map e.answered (λ (x : Answered). x.0)), ap length e.are.front, length-take (length e.answered) front) in
     record {
       answered = e.answered;
@@ -157,14 +139,9 @@ ended_more timeout front more steps receipts text ending short e =
         answers = e.are.answers;
         counts = e.are.counts;
       };
-      rest = e.rest;
       is = e.is;
-      whole = e.whole;
-      early = by e.early;
-    } where
-      by : ((short ≡ true) × (0 < length e.rest)) ⊎ (length e.answered < length front) → ((short ≡ true) × (0 < length e.rest)) ⊎ (length e.answered < length (front ++ more))
-      by (inl memory) = inl memory
-      by (inr lt) = inr (omega (arith, lt, length-append front more))
+      early = omega (arith, e.early, length-append front more);
+    }
 
 -- the same of what is owed
 pub owed_front : (config : Config) (front more : List Line) (steps : List Step) (receipts : List Receipted) → HasOwed config front steps receipts → HasOwed config (front ++ more) steps receipts
@@ -213,20 +190,15 @@ owed_more config lines durable appended old new last history kept o = record {
   opened_by (inl same) (inr is) = inr (subst (λ (rs : List Receipted). IsTrue (is_opened old.steps rs)) (sym same) is)
   opened_by (inr one) (inr is) = inr (subst (λ (rs : List Receipted). IsTrue (is_opened old.steps rs)) (sym one.1) (opened_more old.steps old.receipts one.0 is))
 
+-- no call was made
+pub none_noted : (durable appended : ℕ) (l : Lists) → HasNoStep durable appended l l
+none_noted durable appended l = record { steps = refl; receipts = inl refl }
+
 -- a line that ended the replay left each receipt owed
 pub refused_owed : {D : Type 0} (timeout : ℕ) (done : List Line) (line : Line) (labels : List ℕ → ℕ) (number : ℕ) (old new : EngineOf D Kept) (text : List ℕ) → HasPlayed timeout done labels number old text → HasNoStep old.durable old.appended (lists_of old.chronicle) (lists_of new.chronicle)
     → HasOwed old.config (done ++ line ∷ []) new.chronicle.steps.items new.chronicle.receipts.items
 refused_owed timeout done line labels number old new text was kept =
     owed_more old.config (done ++ line ∷ []) old.durable old.appended (lists_of old.chronicle) (lists_of new.chronicle) was.playing.owing.last was.playing.owing.history kept (played_owed timeout done (line ∷ []) number was.answered old was.lines was.playing)
-
--- one that was answered, without its text
-pub unwritten_owed : {D : Type 0} (timeout : ℕ) (done : List Line) (line : Line) (answer : Option Answer) (labels labels' : List ℕ → ℕ) (number number' : ℕ) (old new : EngineOf D Kept) (text : List ℕ) → HasPlayed timeout done labels number old text → new.config ≡ old.config
-    → ((answered : List Answered) → AreNumbersOf labels answered → IsPlaying timeout answered number old → IsPlaying timeout (answered ++ (line, answer) ∷ []) number' new × AreNumbersOf labels' (answered ++ (line, answer) ∷ [])) → HasOwed old.config (done ++ line ∷ []) new.chronicle.steps.items new.chronicle.receipts.items
-unwritten_owed timeout done line answer labels labels' number number' old new text was config goes =
-    let all : List Answered = was.answered ++ (line, answer) ∷ [] in
-    let lines : map (λ (x : Answered). x.0) all ≡ done ++ line ∷ [] = map-append (λ (x : Answered). x.0) was.answered ((line, answer) ∷ []) ∙ ap (λ (ls : List Line). ls ++ line ∷ []) was.lines in
-    subst (λ (k : Config). HasOwed k (done ++ line ∷ []) new.chronicle.steps.items new.chronicle.receipts.items) config
-    (subst (λ (ls : List Line). HasOwed new.config ls new.chronicle.steps.items new.chronicle.receipts.items) (append-nil (done ++ line ∷ [])) (played_owed timeout (done ++ line ∷ []) [] number' all new lines (goes was.answered was.labelled was.playing).0))
 
 -- all lines were answered
 pub all_owed : {D : Type 0} (timeout : ℕ) (done : List Line) (labels : List ℕ → ℕ) (number : ℕ) (e : EngineOf D Kept) (text : List ℕ) → HasPlayed timeout done labels number e text → HasOwed e.config done e.chronicle.steps.items e.chronicle.receipts.items

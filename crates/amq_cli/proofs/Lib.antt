@@ -15,6 +15,5 @@ pub mod Recovering
 pub mod Beginning
 pub mod Digits
 pub mod Causes
-pub mod Short
-pub mod EndedExamples
 pub mod CountsExamples
+pub mod DataFileLemmas

@@ -1,5 +1,5 @@
 -- Lines of a replay that may be answered so, and lines that may not.
-use Rattle.std.proofs.Common.{◌≡◌, ◌⊎◌, inl, inr, ℕ, ◌-◌, ◌<◌, ◌≤◌, true, false, List, [], ◌∷◌, ◌++◌, length, map, take, codes, None, Some, All, refl, sym, ap, subst, ◌∙◌, true≢false, arith}
+use Rattle.std.proofs.Common.{◌≡◌, inl, inr, ℕ, ◌-◌, ◌<◌, ◌≤◌, List, [], ◌∷◌, ◌++◌, length, map, codes, None, Some, All, refl, sym, ap, subst, true≢false, arith}
 use Rattle.std.proofs.lemmas.List.Elements.{All-nil, All-cons, All-head, All-tail}
 use Rattle.std.specs.Fmt.{digits}
 use Rattle.amq_model.specs.declared.record.Record.TheVariants as rec
@@ -14,9 +14,10 @@ use Rattle.amq_model.specs.declared.history.Step.{Step}
 use Rattle.amq_engine.specs.declared.chronicle.Receipted.{Receipted}
 use Rattle.amq_cli.specs.Replay.{IsOld, IsTickCount, IsFlushCount, AreCounted, Answered, placed_at, reply_lines, IsTicked, IsReceipted, AreAnswered, HasEnded, all_commanded, line_of, IsLineAnswer}
 use Rattle.amq_model.specs.declared.refusal.DiskCall.TheVariants.{Read, WriteAt}
-use Rattle.amq_io.specs.Cause.{NoneFailed}
 use Rattle.amq_cli.specs.Output.{IsBrokenOff}
-use Rattle.amq_cli.specs.Offline.{HasFront, BreaksOff, HasShort}
+use Rattle.amq_cli.specs.Offline.{IsEnding, IsGiven}
+use Rattle.amq_cli.specs.declared.status.Status.{Status}
+use Rattle.amq_cli.specs.declared.status.Status.TheVariants as s
 
 -- ---- the lines
 
@@ -179,35 +180,28 @@ a_tick_too_late h = let young : 3 - 0 < 3 = h.answers.1.0.young [] (appended add
 
 -- ---- how a replay ends
 
--- memory was short in the middle of the second line
-pub cut_short : HasEnded 3 lines (first ∷ second ∷ []) receipts (codes "ok 0\ndur") [] true
-unfolding digits
-cut_short = let long : length (codes "able 1\nok 1\n") ≡ 12 = refl in record { answered = answered; are = three_lines; rest = codes "able 1\nok 1\n"; is = refl; whole = inl refl; early = inl (refl, omega (arith, long)) }
-
 -- the first two lines were answered
 two_lines : AreAnswered 3 lines (first ∷ []) receipts (appended add 0 ∷ durable 3 1 ∷ [])
 two_lines = record { front = refl; commands = refl; numbered = (refl, refl, tt); receipted = three_lines.receipted; answers = (three_lines.answers.0, (three_lines.answers.1.0, tt)); counts = (tt, (counted_by_the_tick, tt)) }
 
--- a disk call failed at the third one
-pub ended_by_a_disk_call : HasEnded 3 lines (first ∷ []) receipts (codes "ok 0\ndurable 1\nrefused Disk WriteAt\n") (codes "refused Disk WriteAt\n") false
+-- memory was short at the third one
+pub ended_for_memory : HasEnded 3 lines (first ∷ []) receipts (codes "ok 0\ndurable 1\n") []
 unfolding digits
-ended_by_a_disk_call = record { answered = appended add 0 ∷ durable 3 1 ∷ []; are = two_lines; rest = []; is = refl; whole = inr refl; early = inr (omega arith) }
+ended_for_memory = record { answered = appended add 0 ∷ durable 3 1 ∷ []; are = two_lines; is = refl; early = omega arith }
+
+-- a disk call failed at it
+pub ended_by_a_disk_call : HasEnded 3 lines (first ∷ []) receipts (codes "ok 0\ndurable 1\nrefused Disk WriteAt\n") (codes "refused Disk WriteAt\n")
+unfolding digits
+ended_by_a_disk_call = record { answered = appended add 0 ∷ durable 3 1 ∷ []; are = two_lines; is = refl; early = omega arith }
 
 -- the replay of no line doesn't end early
-pub ended_before_no_line : HasEnded 3 [] [] receipts (codes "refused Disk WriteAt\n") (codes "refused Disk WriteAt\n") false → ⊥
-ended_before_no_line h = by h.early where
-  by : ((false ≡ true) × (0 < length h.rest)) ⊎ (length h.answered < 0) → ⊥
-  by (inl e) = true≢false (sym e.0)
-  by (inr lt) = omega (arith, lt)
+pub ended_before_no_line : HasEnded 3 [] [] receipts (codes "refused Disk WriteAt\n") (codes "refused Disk WriteAt\n") → ⊥
+ended_before_no_line h = omega (arith, h.early)
 
--- the one step's line is there, unless memory was short
-pub cut_short_for_nothing : HasEnded 3 lines (first ∷ []) receipts [] [] false → ⊥
+-- the one step's line is there
+pub ended_without_a_line : HasEnded 3 lines (first ∷ []) receipts [] [] → ⊥
 unfolding digits
-cut_short_for_nothing h = by h.answered h.are (is h.whole) where
-  is : (false ≡ true) ⊎ (h.rest ≡ []) → [] ≡ reply_lines h.answered ++ []
-  is (inl e) = absurd (true≢false (sym e))
-  is (inr e) = sym e ∙ h.is
-
+ended_without_a_line h = by h.answered h.are h.is where
   none : (b : ℕ) (bs : List ℕ) → [] ≡ b ∷ bs → ⊥
   none b bs e = cc
 
@@ -231,37 +225,35 @@ cut_short_for_nothing h = by h.answered h.are (is h.whole) where
   by [] are e = let n : ◌≡◌ {A = ℕ} 1 0 = ap length are.commands in omega (arith, n)
   by (x ∷ xs) are e = shown x xs (head x xs (ap first_line are.front) are.answers.0 are.commands) e
 
--- ---- want of memory
+-- ---- what stands behind the lines
 
--- memory was short in the middle of the second line
-pub a_front_of_the_lines : HasFront 3 lines (first ∷ second ∷ []) receipts (codes "ok 0\ndur")
-unfolding digits
-a_front_of_the_lines = record { answered = answered; are = three_lines; rest = codes "able 1\nok 1\n"; is = refl }
+abbrev ends : Status → Type 0 → ℕ → List Answered → List ℕ → Type 0
+ends status Opened now answered ending = IsEnding status (λ state. ⊥) (λ fault. ⊥) Opened (3, Some Read) (now, Some WriteAt) lines answered ending
 
--- a report isn't one
-pub no_front_of_no_line : HasFront 3 [] [] receipts (codes "live 0\n") → ⊥
-no_front_of_no_line h = by h.answered h.are.front h.is where
-  by : (answered : List Answered) → map (λ (x : Answered). x.0) answered ≡ take (length answered) [] → codes "live 0\n" ++ h.rest ≡ reply_lines answered → ⊥
-  by [] front is = absurd (let none : codes "live 0\n" ++ h.rest ≡ [] = is in cc)
-  by (x ∷ xs) front is = absurd (let none : x.0 ∷ map (λ (y : Answered). y.0) xs ≡ [] = front in cc)
+-- a disk call failed at a line
+pub the_line_of_a_call : ends s.DiskFault (Unit {0}) 4 [] (codes "refused Disk WriteAt\n")
+the_line_of_a_call = inr (tt, inr (omega arith, omega arith, (WriteAt, refl, refl)))
 
--- there was no memory for the line of the call that failed at the third line
-pub no_line_of_a_disk_call : BreaksOff 3 lines (3, Some Read) (4, Some WriteAt) (first ∷ []) receipts (codes "ok 0\ndurable 1\n")
-unfolding digits
-no_line_of_a_disk_call = let long : length (codes "refused Disk WriteAt\n") ≡ 21 = refl in record {
-  rose = omega arith;
-  answered = appended add 0 ∷ durable 3 1 ∷ [];
-  are = two_lines;
-  ending = codes "refused Disk WriteAt\n";
-  ends = inr (omega arith, omega arith, (WriteAt, refl, refl));
-  rest = codes "refused Disk WriteAt\n";
-  is = refl;
-  short = omega (arith, long);
-}
+-- its line doesn't lack
+pub no_line_lacks : ends s.DiskFault (Unit {0}) 4 [] [] → ⊥
+no_line_lacks (inl refused) = refused.0.1
+no_line_lacks (inr (opened, inl all)) = omega (arith, all.1)
+no_line_lacks (inr (opened, inr (early, rose, (call, failed, is)))) = absurd cc
 
--- no call has failed
-pub nothing_breaks_off : (text : List ℕ) → BreaksOff 3 lines (3, Some Read) (3, Some Read) (first ∷ []) receipts text → ⊥
-nothing_breaks_off text h = omega (arith, h.rose)
+-- an opening that was refused has none
+pub no_line_of_an_opening : (ending : List ℕ) → ends s.DiskFault ⊥ 4 [] ending → ⊥
+no_line_of_an_opening ending (inl refused) = refused.0.1
+no_line_of_an_opening ending (inr opened) = opened.0
+
+-- memory was short, and a call failed at the closing
+pub for_memory_alone : ends s.NoMemory (Unit {0}) 4 [] []
+for_memory_alone = (refl, inr (tt, (codes "refused Disk WriteAt\n", (omega arith, omega arith, (WriteAt, refl, refl)))))
+
+-- nothing stands there then
+pub no_line_for_memory : ends s.NoMemory (Unit {0}) 4 [] (codes "refused Disk WriteAt\n") → ⊥
+no_line_for_memory h = absurd (let none : codes "refused Disk WriteAt\n" ≡ [] = h.0 in cc)
+
+-- ---- want of memory of the sink
 
 -- the sink had no memory for the last two bytes
 pub broken_off : IsBrokenOff (1 ∷ 2 ∷ 3 ∷ 4 ∷ []) (Some (9 ∷ [])) (Some (9 ∷ 1 ∷ 2 ∷ []))
@@ -270,17 +262,12 @@ broken_off = record { count = 2; within = omega arith; is = refl }
 pub not_broken_off : IsBrokenOff [] (Some (9 ∷ [])) (Some (9 ∷ [])) → ⊥
 not_broken_off h = omega (arith, h.within)
 
--- only the sink has failed, behind a run that ended for want of memory
-pub the_sink_failed : HasShort 3 lines (3, Some Read) (3, Some Read) 0 1 (Some []) (Some (codes "ok 0\ndur")) (first ∷ second ∷ []) receipts
-the_sink_failed = record { bytes = codes "ok 0\ndur"; taken = refl; cause = inr (inl ((refl, refl), a_front_of_the_lines)) }
+-- a run that ended well has status 8 then
+pub given_in_part : IsGiven s.NoMemory s.Ok (1 ∷ 2 ∷ 3 ∷ 4 ∷ []) 5 5 (Some (9 ∷ [])) (Some (9 ∷ 1 ∷ 2 ∷ []))
+given_in_part = inr (inr (refl, refl, broken_off))
 
--- it isn't so of a report
-pub not_of_a_report : HasShort 3 [] (3, Some Read) (3, Some Read) 0 1 (Some []) (Some (codes "live 0\n")) [] receipts → ⊥
-not_of_a_report h = by h.cause where
-  same : h.bytes ≡ codes "live 0\n"
-  same = let e : Some (codes "live 0\n") ≡ Some h.bytes = h.taken in cc
-
-  by : (NoneFailed (3, Some Read) (3, Some Read) × (◌≡◌ {A = ℕ} 1 0)) ⊎ (NoneFailed (3, Some Read) (3, Some Read) × HasFront 3 [] [] receipts h.bytes) ⊎ BreaksOff 3 [] (3, Some Read) (3, Some Read) [] receipts h.bytes → ⊥
-  by (inl none) = omega (arith, none.1)
-  by (inr (inl front)) = no_front_of_no_line (subst (HasFront 3 [] [] receipts) same front.1)
-  by (inr (inr cut)) = omega (arith, cut.rose)
+-- but not where it has no text
+pub not_given_in_part : IsGiven s.NoMemory s.Ok [] 5 5 (Some (9 ∷ [])) (Some (9 ∷ [])) → ⊥
+not_given_in_part (inl same) = absurd (let e : s.NoMemory ≡ s.Ok = same.0 in cc)
+not_given_in_part (inr (inl failed)) = absurd (let e : s.NoMemory ≡ s.SinkFault = failed.0 in cc)
+not_given_in_part (inr (inr broken)) = omega (arith, broken.2.within)

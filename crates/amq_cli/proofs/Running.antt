@@ -1,5 +1,5 @@
 -- The text of a run, however it ended.
-use Rattle.std.proofs.Common.{◌≡◌, ◌⊎◌, inl, inr, ℕ, ◌+◌, ◌<◌, ◌≤◌, Bool, true, false, List, [], ◌∷◌, ◌++◌, length, Option, None, Some, refl, sym, ap, subst, ◌∙◌, arith}
+use Rattle.std.proofs.Common.{◌≡◌, ◌⊎◌, inl, inr, ℕ, ◌+◌, ◌<◌, ◌≤◌, Bool, true, List, [], ◌∷◌, ◌++◌, length, Option, None, Some, refl, sym, ap, subst, ◌∙◌, arith}
 use Rattle.std.specs.Prelude.{Err, IsSome, map, not, ◌==◌, if◌then◌else◌}
 use Rattle.std.proofs.lemmas.List.{append-nil}
 use Rattle.amq_model.specs.declared.script.Line.{Line}
@@ -14,22 +14,24 @@ use Rattle.amq_model.specs.Answers.{history_of}
 use Rattle.amq_model.specs.Calls.{Past}
 use Rattle.amq_model.specs.Legal.{OpensPartly, rolled_back, end_of}
 use Rattle.amq_model.specs.Texts.{refusal_line, report_of}
-use Rattle.amq_io.specs.Cause.{Rose, Faults}
+use Rattle.amq_io.specs.Cause.{Rose, Faults, NoneFailed}
 use Rattle.amq_engine.specs.declared.chronicle.Receipted.{Receipted}
 use Rattle.amq_engine.specs.Lists.{Lists}
 use Rattle.amq_model.specs.declared.directory.OpenFault.{OpenFault}
 use Rattle.amq_model.specs.declared.directory.OpenFault.TheVariants as o
 use Rattle.amq_engine.specs.declared.chronicle.Kept.{Kept}
-use Rattle.amq_engine.specs.Engine.{EngineOf, receipted}
+use Rattle.amq_engine.specs.Engine.{EngineOf, HasCause, receipted}
 use Rattle.amq_engine.specs.Opening.{AreRolledBack, HasOpenCause}
 use Rattle.amq_engine.specs.Receipts.{IsLastCount}
 use Rattle.amq_cli.specs.declared.status.Status.{Status}
 use Rattle.amq_cli.specs.declared.status.Status.TheVariants as s
+use Rattle.amq_cli.specs.declared.status.Unbuilt.TheVariants as u
 use Rattle.amq_cli.specs.Statuses.{status_of, status_of_opening}
-use Rattle.amq_cli.specs.Ended.{HasReplayCause}
+use Rattle.amq_cli.specs.Counts.{HasLoadCount}
+use Rattle.amq_cli.proofs.Causes.{none_further}
 use Rattle.amq_cli.specs.Playing.{HasPlayed, IsOwing}
-use Rattle.amq_cli.specs.Offline.{lists_of, HasText, HasRunOn, IsEnding, IsDiskLine, IsLoadedState, AreAll, HasDiskCause, HasRunCause, is_of_refused}
-use Rattle.amq_cli.specs.Replay.{Answered, reply_lines, AreAnswered, AreNumbered, HasEnded, HasReplayed, IsLast, IsClosedBy, is_for_memory, own, rolled}
+use Rattle.amq_cli.specs.Offline.{lists_of, HasText, HasRunOn, IsEnding, IsDiskLine, IsLoadedState, AreAll, HasDiskCause, HasRunCause, IsOfRefusedOpening}
+use Rattle.amq_cli.specs.Replay.{Answered, reply_lines, AreAnswered, AreNumbered, HasEnded, HasReplayed, IsLast, IsClosedBy, own, rolled}
 use Rattle.amq_cli.proofs.Answering.{no_step, last_receipted}
 use Rattle.std.specs.List.{list_any}
 use Rattle.amq_engine.specs.Owed.{waiting_behind, IsOwedAtOpening, AreOwedAtOpening}
@@ -43,13 +45,17 @@ module _ (timeout : ℕ) (lines : List Line) (old new : Lists) (b : Bool) (durab
   pub replayed_closed : (text : List ℕ) → HasReplayed timeout lines old.steps old.receipts text → HasReplayed timeout lines new.steps new.receipts text
   replayed_closed text replayed = let n = no_step b durable appended moment old new more closed in record { answered = replayed.answered; are = answered_more timeout lines durable appended old new replayed.answered n replayed.are; all = replayed.all; is = replayed.is }
 
-  pub ended_closed : (text ending : List ℕ) (short : Bool) → HasEnded timeout lines old.steps old.receipts text ending short → HasEnded timeout lines new.steps new.receipts text ending short
-  ended_closed text ending short ended = let n = no_step b durable appended moment old new more closed in record { answered = ended.answered; are = answered_more timeout lines durable appended old new ended.answered n ended.are; rest = ended.rest; is = ended.is; whole = ended.whole; early = ended.early }
+  pub ended_closed : (text ending : List ℕ) → HasEnded timeout lines old.steps old.receipts text ending → HasEnded timeout lines new.steps new.receipts text ending
+  ended_closed text ending ended = let n = no_step b durable appended moment old new more closed in record { answered = ended.answered; are = answered_more timeout lines durable appended old new ended.answered n ended.are; is = ended.is; early = ended.early }
+
+-- what an opening that wasn't refused says of one that was
+abbrev pub NotRefused : OpenFault → Type 0
+NotRefused fault = ⊥
 
 -- Nothing stands behind the lines of all.
-silent_ends : (status : Status) (Loaded : LoadState → Type 0) (was now : Faults) (lines : List Line) (answered : List Answered) → AreAll lines answered → (status ≡ s.DiskFault) ⊎ (status ≡ s.NoMemory) → IsEnding status Loaded was now lines answered []
-silent_ends status Loaded was now lines answered all (inl is) = subst (λ (x : Status). IsEnding x Loaded was now lines answered []) (sym is) (inl (refl, inr all))
-silent_ends status Loaded was now lines answered all (inr is) = subst (λ (x : Status). IsEnding x Loaded was now lines answered []) (sym is) (inl refl)
+silent_ends : (status : Status) (Loaded : LoadState → Type 0) (was now : Faults) (lines : List Line) (answered : List Answered) → AreAll lines answered → (status ≡ s.DiskFault) ⊎ ((status ≡ s.NoMemory) × NoneFailed was now) → IsEnding status Loaded NotRefused (Unit {0}) was now lines answered []
+silent_ends status Loaded was now lines answered all (inl is) = subst (λ (x : Status). IsEnding x Loaded NotRefused (Unit {0}) was now lines answered []) (sym is) (inr (tt, inl (refl, all)))
+silent_ends status Loaded was now lines answered all (inr is) = subst (λ (x : Status). IsEnding x Loaded NotRefused (Unit {0}) was now lines answered []) (sym is.0) (refl, inl is.1)
 
 pub refusal_status : (refusal : Refusal) → (status_of refusal ≡ s.DiskFault) ⊎ (status_of refusal ≡ s.NoMemory)
 refusal_status (r.Closed fault) = inr refl
@@ -65,35 +71,32 @@ refusal_status (r.FileIdsSpent highest) = inr refl
 refusal_status (r.Disk call) = inl refl
 refusal_status r.NoMemory = inr refl
 
--- a disk call that a refusal names has failed, and is the one that failed last
+-- a disk call that a refusal names has failed, and is the one that failed last; behind want of memory one may have failed besides
 abbrev pub IsNamed : Refusal → Faults → Faults → Type 0
 IsNamed (r.Disk call) was now = Rose was.0 now.0 × (now.1 ≡ Some call)
+IsNamed r.NoMemory was now = NoneFailed was now ⊎ (Rose was.0 now.0 × ((call : DiskCall) × (now.1 ≡ Some call)))
 IsNamed _ was now = Unit {0}
 
 -- a replay that was refused
 pub refused_text : (timeout : ℕ) (status : Status) (Loaded : LoadState → Type 0) (lines : List Line) (was now : Faults) (steps : List Step) (receipts : List Receipted) (text : List ℕ) (refusal : Refusal) → IsLast refusal → status ≡ status_of refusal → IsNamed refusal was now
-    → HasEnded timeout lines steps receipts text (refusal_line refusal) (is_for_memory refusal) → HasText timeout status Loaded lines was now steps receipts text
-refused_text timeout status Loaded lines was now steps receipts text (r.Disk call) last is named ended = subst (λ (x : Status). HasText timeout x Loaded lines was now steps receipts text) (sym is) (record {
+    → HasEnded timeout lines steps receipts text (refusal_line refusal) → HasText timeout status Loaded NotRefused (Unit {0}) lines was now steps receipts text
+refused_text timeout status Loaded lines was now steps receipts text (r.Disk call) last is named ended = subst (λ (x : Status). HasText timeout x Loaded NotRefused (Unit {0}) lines was now steps receipts text) (sym is) (record {
   answered = ended.answered;
   are = ended.are;
   ending = refusal_line (r.Disk call);
-  ends = inr (early ended.early, named.0, (call, named.1, refl));
-  rest = ended.rest;
+  ends = inr (tt, inr (ended.early, named.0, (call, named.1, refl)));
   is = ended.is;
-  whole = ended.whole;
-}) where
-  early : ((false ≡ true) × (0 < length ended.rest)) ⊎ (length ended.answered < length lines) → length ended.answered < length lines
-  early (inl e) = absurd (let short : false ≡ true = e.0 in cc)
-  early (inr lt) = lt
-refused_text timeout status Loaded lines was now steps receipts text r.NoMemory last is named ended = subst (λ (x : Status). HasText timeout x Loaded lines was now steps receipts text) (sym is) (record {
+})
+refused_text timeout status Loaded lines was now steps receipts text r.NoMemory last is named ended = subst (λ (x : Status). HasText timeout x Loaded NotRefused (Unit {0}) lines was now steps receipts text) (sym is) (record {
   answered = ended.answered;
   are = ended.are;
   ending = [];
-  ends = inl refl;
-  rest = ended.rest;
+  ends = (refl, by named);
   is = ended.is;
-  whole = inl refl;
-})
+}) where
+  by : NoneFailed was now ⊎ (Rose was.0 now.0 × ((call : DiskCall) × (now.1 ≡ Some call))) → NoneFailed was now ⊎ (Unit {0} × ((line : List ℕ) × IsDiskLine was now lines ended.answered line))
+  by (inl none) = inl none
+  by (inr failed) = inr (tt, (refusal_line (r.Disk failed.1.0), (ended.early, failed.0, (failed.1.0, failed.1.1, refl))))
 refused_text timeout status Loaded lines was now steps receipts text (r.Closed fault) last is named ended = absurd last
 refused_text timeout status Loaded lines was now steps receipts text (r.TooLarge len limit) last is named ended = absurd last
 refused_text timeout status Loaded lines was now steps receipts text (r.NoTx tx) last is named ended = absurd last
@@ -106,91 +109,95 @@ refused_text timeout status Loaded lines was now steps receipts text (r.Compacti
 refused_text timeout status Loaded lines was now steps receipts text (r.FileIdsSpent highest) last is named ended = absurd last
 
 -- all lines were answered, and nothing stands behind theirs
-pub unreported_text : (timeout : ℕ) (status : Status) (Loaded : LoadState → Type 0) (lines : List Line) (was now : Faults) (steps : List Step) (receipts : List Receipted) (before after : List ℕ) → HasReplayed timeout lines steps receipts before → after ≡ before → (status ≡ s.DiskFault) ⊎ (status ≡ s.NoMemory)
-    → HasText timeout status Loaded lines was now steps receipts after
+pub unreported_text : (timeout : ℕ) (status : Status) (Loaded : LoadState → Type 0) (lines : List Line) (was now : Faults) (steps : List Step) (receipts : List Receipted) (before after : List ℕ) → HasReplayed timeout lines steps receipts before → after ≡ before → (status ≡ s.DiskFault) ⊎ ((status ≡ s.NoMemory) × NoneFailed was now)
+    → HasText timeout status Loaded NotRefused (Unit {0}) lines was now steps receipts after
 unreported_text timeout status Loaded lines was now steps receipts before after replayed same which = record {
   answered = replayed.answered;
   are = replayed.are;
   ending = [];
   ends = silent_ends status Loaded was now lines replayed.answered replayed.all which;
-  rest = [];
-  is = append-nil after ∙ same ∙ replayed.is ∙ sym (append-nil (reply_lines replayed.answered));
-  whole = inr refl;
+  is = same ∙ replayed.is ∙ sym (append-nil (reply_lines replayed.answered));
 }
 
 -- the text of a run whose journal was closed
 pub reported_text : (config : Config) (status : Status) (lines : List Line) (first last was now : Faults) (base : List Placed) (steps : List Step) (receipts : List Receipted) (before after : List ℕ) (past : Option Past) → HasReplayed config.buffer_timeout lines steps receipts before → (status ≡ s.Ok → HasRunOn config lines after past base steps receipts)
-    → (status ≡ s.Ok) ⊎ (after ≡ before) → HasDiskCause status was now → HasText config.buffer_timeout status (IsLoadedState past config.user_version base steps) lines first last steps receipts after
-reported_text config s.Ok lines first last was now base steps receipts before after past replayed ran unreported cause =
+    → (status ≡ s.Ok) ⊎ (after ≡ before) → HasDiskCause status was now → NoneFailed first was → HasLoadCount status was last → HasText config.buffer_timeout status (IsLoadedState past config.user_version base steps) NotRefused (Unit {0}) lines first last steps receipts after
+reported_text config s.Ok lines first last was now base steps receipts before after past replayed ran unreported cause none count =
     let r = ran refl in
     record {
       answered = r.replayed.answered;
       are = r.replayed.are;
       ending = report_of r.state;
-      ends = (r.replayed.all, (r.state, r.loaded, refl));
-      rest = [];
-      is = append-nil after ∙ r.reported ∙ ap (λ t. t ++ report_of r.state) r.replayed.is;
-      whole = inr refl;
+      ends = (tt, (r.replayed.all, (r.state, r.loaded, refl)));
+      is = r.reported ∙ ap (λ t. t ++ report_of r.state) r.replayed.is;
     }
-reported_text config s.DiskFault lines first last was now base steps receipts before after past replayed ran (inl ok) cause = absurd (let e : s.DiskFault ≡ s.Ok = ok in cc)
-reported_text config s.DiskFault lines first last was now base steps receipts before after past replayed ran (inr same) cause = unreported_text config.buffer_timeout s.DiskFault (IsLoadedState past config.user_version base steps) lines first last steps receipts before after replayed same (inl refl)
-reported_text config s.NoMemory lines first last was now base steps receipts before after past replayed ran (inl ok) cause = absurd (let e : s.NoMemory ≡ s.Ok = ok in cc)
-reported_text config s.NoMemory lines first last was now base steps receipts before after past replayed ran (inr same) cause = unreported_text config.buffer_timeout s.NoMemory (IsLoadedState past config.user_version base steps) lines first last steps receipts before after replayed same (inr refl)
-reported_text config s.SourceFault lines first last was now base steps receipts before after past replayed ran unreported cause = absurd cause
-reported_text config s.SinkFault lines first last was now base steps receipts before after past replayed ran unreported cause = absurd cause
-reported_text config (s.InputTooLong limit) lines first last was now base steps receipts before after past replayed ran unreported cause = absurd cause
-reported_text config (s.Directory fault) lines first last was now base steps receipts before after past replayed ran unreported cause = absurd cause
-reported_text config (s.FileIdsSpent highest) lines first last was now base steps receipts before after past replayed ran unreported cause = absurd cause
-reported_text config (s.NotBuilt part) lines first last was now base steps receipts before after past replayed ran unreported cause = absurd cause
+reported_text config s.DiskFault lines first last was now base steps receipts before after past replayed ran (inl ok) cause none count = absurd (let e : s.DiskFault ≡ s.Ok = ok in cc)
+reported_text config s.DiskFault lines first last was now base steps receipts before after past replayed ran (inr same) cause none count = unreported_text config.buffer_timeout s.DiskFault (IsLoadedState past config.user_version base steps) lines first last steps receipts before after replayed same (inl refl)
+reported_text config s.NoMemory lines first last was now base steps receipts before after past replayed ran (inl ok) cause none count = absurd (let e : s.NoMemory ≡ s.Ok = ok in cc)
+reported_text config s.NoMemory lines first last was now base steps receipts before after past replayed ran (inr same) cause none count = unreported_text config.buffer_timeout s.NoMemory (IsLoadedState past config.user_version base steps) lines first last steps receipts before after replayed same (inr (refl, none_further first was last none count))
+reported_text config s.SourceFault lines first last was now base steps receipts before after past replayed ran unreported cause none count = absurd cause
+reported_text config s.SinkFault lines first last was now base steps receipts before after past replayed ran unreported cause none count = absurd cause
+reported_text config (s.InputTooLong limit) lines first last was now base steps receipts before after past replayed ran unreported cause none count = absurd cause
+reported_text config (s.Directory fault) lines first last was now base steps receipts before after past replayed ran unreported cause none count = absurd cause
+reported_text config (s.FileIdsSpent highest) lines first last was now base steps receipts before after past replayed ran unreported cause none count = absurd cause
+reported_text config (s.NotBuilt part) lines first last was now base steps receipts before after past replayed ran unreported cause none count = absurd cause
 
 -- a refusal for a disk call names the one that failed last, also behind a closing that makes no call
-pub named_refusal : (T : Type 0) (refusal : Refusal) (was now later : Faults) (closed : Option DiskCall) → HasReplayCause {T = T} (Err refusal) was now → IsClosedBy refusal closed → (IsSome closed → later ≡ now) → IsNamed refusal was later
-named_refusal T (r.Disk call) was now later closed cause by idle = subst (IsNamed (r.Disk call) was) (sym (idle (subst IsSome (sym by) refl))) cause
-named_refusal T (r.Closed fault) was now later closed cause by idle = tt
-named_refusal T (r.TooLarge len limit) was now later closed cause by idle = tt
-named_refusal T (r.NoTx tx) was now later closed cause by idle = tt
-named_refusal T (r.TxPrepared tx) was now later closed cause by idle = tt
-named_refusal T (r.Held id tx) was now later closed cause by idle = tt
-named_refusal T (r.AlreadyLive id) was now later closed cause by idle = tt
-named_refusal T (r.NoRecord id) was now later closed cause by idle = tt
-named_refusal T (r.TxNumbersSpent highest) was now later closed cause by idle = tt
-named_refusal T (r.Compacting phase) was now later closed cause by idle = tt
-named_refusal T (r.FileIdsSpent highest) was now later closed cause by idle = tt
-named_refusal T r.NoMemory was now later closed cause by idle = tt
+pub named_refusal : (T : Type 0) (refusal : Refusal) (was now later : Faults) (closed : Option DiskCall) → HasCause {T = T} (Err refusal) was now → IsClosedBy refusal closed → (IsSome closed → later ≡ now) → NoneFailed now later ⊎ (Rose now.0 later.0 × ((call : DiskCall) × (later.1 ≡ Some call))) → IsNamed refusal was later
+named_refusal T (r.Disk call) was now later closed cause by idle further = subst (IsNamed (r.Disk call) was) (sym (idle (subst IsSome (sym by) refl))) cause
+named_refusal T (r.Closed fault) was now later closed cause by idle further = tt
+named_refusal T (r.TooLarge len limit) was now later closed cause by idle further = tt
+named_refusal T (r.NoTx tx) was now later closed cause by idle further = tt
+named_refusal T (r.TxPrepared tx) was now later closed cause by idle further = tt
+named_refusal T (r.Held id tx) was now later closed cause by idle further = tt
+named_refusal T (r.AlreadyLive id) was now later closed cause by idle further = tt
+named_refusal T (r.NoRecord id) was now later closed cause by idle further = tt
+named_refusal T (r.TxNumbersSpent highest) was now later closed cause by idle further = tt
+named_refusal T (r.Compacting phase) was now later closed cause by idle further = tt
+named_refusal T (r.FileIdsSpent highest) was now later closed cause by idle further = tt
+named_refusal T r.NoMemory was now later closed cause by idle further = either further where
+  either : NoneFailed now later ⊎ (Rose now.0 later.0 × ((call : DiskCall) × (later.1 ≡ Some call))) → NoneFailed was later ⊎ (Rose was.0 later.0 × ((call : DiskCall) × (later.1 ≡ Some call)))
+  either (inl none) = inl (none_further was now later cause none)
+  either (inr failed) = inr (omega (arith, cause.0, failed.0), failed.1)
 
 -- ---- since an earlier moment
 
 earlier_rose : (was first now : ℕ) → was ≤ first → Rose first now → Rose was now
 earlier_rose was first now le rose = omega (arith, le, rose)
 
-earlier_line : (was first now : Faults) (lines : List Line) (answered : List Answered) (ending : List ℕ) → was.0 ≤ first.0 → IsDiskLine first now lines answered ending → IsDiskLine was now lines answered ending
-earlier_line was first now lines answered ending le line = (line.0, earlier_rose was.0 first.0 now.0 le line.1, line.2)
+earlier_line : (was first now : Faults) (lines : List Line) (answered : List Answered) (ending : List ℕ) → NoneFailed was first → IsDiskLine first now lines answered ending → IsDiskLine was now lines answered ending
+earlier_line was first now lines answered ending none line = (line.0, omega (arith, none.0, line.1), line.2)
 
-pub earlier_ending : (status : Status) (Loaded : LoadState → Type 0) (was first now : Faults) (lines : List Line) (answered : List Answered) (ending : List ℕ) → was.0 ≤ first.0 → IsEnding status Loaded first now lines answered ending → IsEnding status Loaded was now lines answered ending
-earlier_ending s.Ok Loaded was first now lines answered ending le ends = ends
-earlier_ending s.SinkFault Loaded was first now lines answered ending le ends = ends
-earlier_ending s.DiskFault Loaded was first now lines answered ending le (inl none) = inl none
-earlier_ending s.DiskFault Loaded was first now lines answered ending le (inr line) = inr (earlier_line was first now lines answered ending le line)
-earlier_ending s.NoMemory Loaded was first now lines answered ending le (inl none) = inl none
-earlier_ending s.NoMemory Loaded was first now lines answered ending le (inr (inl line)) = inr (inl (earlier_line was first now lines answered ending le line))
-earlier_ending s.NoMemory Loaded was first now lines answered ending le (inr (inr report)) = inr (inr report)
-earlier_ending s.SourceFault Loaded was first now lines answered ending le ends = ends
-earlier_ending (s.InputTooLong limit) Loaded was first now lines answered ending le ends = ends
-earlier_ending (s.Directory fault) Loaded was first now lines answered ending le ends = ends
-earlier_ending (s.FileIdsSpent highest) Loaded was first now lines answered ending le ends = ends
-earlier_ending (s.NotBuilt part) Loaded was first now lines answered ending le ends = ends
+-- the same since the moment before the opening
+module _ (Loaded : LoadState → Type 0) (Refused : OpenFault → Type 0) (Opened : Type 0) (was first now : Faults) (lines : List Line) (none : NoneFailed was first) (opened : Opened) where
+  earlier_ending : (status : Status) (answered : List Answered) (ending : List ℕ) → IsEnding status Loaded NotRefused (Unit {0}) first now lines answered ending → IsEnding status Loaded Refused Opened was now lines answered ending
+  earlier_ending s.Ok answered ending ends = (opened, ends.1)
+  earlier_ending s.SinkFault answered ending ends = (opened, ends.1)
+  earlier_ending s.DiskFault answered ending (inl refused) = absurd refused.0.1
+  earlier_ending s.DiskFault answered ending (inr ends) = inr (opened, by ends.1) where
+    by : ((ending ≡ []) × AreAll lines answered) ⊎ IsDiskLine first now lines answered ending → ((ending ≡ []) × AreAll lines answered) ⊎ IsDiskLine was now lines answered ending
+    by (inl all) = inl all
+    by (inr line) = inr (earlier_line was first now lines answered ending none line)
+  earlier_ending s.NoMemory answered ending ends = (ends.0, by ends.1) where
+    by : NoneFailed first now ⊎ (Unit {0} × ((line : List ℕ) × IsDiskLine first now lines answered line)) → NoneFailed was now ⊎ (Opened × ((line : List ℕ) × IsDiskLine was now lines answered line))
+    by (inl further) = inl (none_further was first now none further)
+    by (inr failed) = inr (opened, (failed.1.0, earlier_line was first now lines answered failed.1.0 none failed.1.1))
+  earlier_ending s.SourceFault answered ending ends = ends
+  earlier_ending (s.InputTooLong limit) answered ending ends = ends
+  earlier_ending (s.Directory fault) answered ending ends = absurd ends.0
+  earlier_ending (s.FileIdsSpent highest) answered ending ends = absurd ends.0
+  earlier_ending (s.NotBuilt u.Directory) answered ending ends = absurd ends.0
+  earlier_ending (s.NotBuilt u.Words) answered ending ends = ends
+  earlier_ending (s.NotBuilt u.Script) answered ending ends = ends
 
--- what failed since the opening failed in the run
-pub earlier_text : (timeout : ℕ) (status : Status) (Loaded : LoadState → Type 0) (lines : List Line) (was first now : Faults) (steps : List Step) (receipts : List Receipted) (text : List ℕ) → was.0 ≤ first.0 → HasText timeout status Loaded lines first now steps receipts text → HasText timeout status Loaded lines was now steps receipts text
-earlier_text timeout status Loaded lines was first now steps receipts text le has = record {
-  answered = has.answered;
-  are = has.are;
-  ending = has.ending;
-  ends = earlier_ending status Loaded was first now lines has.answered has.ending le has.ends;
-  rest = has.rest;
-  is = has.is;
-  whole = has.whole;
-}
+  pub earlier_text : (timeout : ℕ) (status : Status) (steps : List Step) (receipts : List Receipted) (text : List ℕ) → HasText timeout status Loaded NotRefused (Unit {0}) lines first now steps receipts text → HasText timeout status Loaded Refused Opened lines was now steps receipts text
+  earlier_text timeout status steps receipts text has = record {
+    answered = has.answered;
+    are = has.are;
+    ending = has.ending;
+    ends = earlier_ending status has.answered has.ending has.ends;
+    is = has.is;
+  }
 
 -- ---- at first
 
@@ -225,15 +232,16 @@ pub nothing_owed : (config : Config) (lines : List Line) (steps : List Step) (re
 nothing_owed config lines steps receipts bare blank = subst (λ (ss : List Step). HasOwed config lines ss receipts) (sym bare) (subst (HasOwed config lines []) (sym blank) (record { answered = []; are = none_answered config.buffer_timeout lines [] [] refl; owed = tt; opened = inl refl }))
 
 -- where the journal wasn't opened
-pub unopened_text : (timeout : ℕ) (status : Status) (Loaded : LoadState → Type 0) (lines : List Line) (was now : Faults) (steps : List Step) (receipts : List Receipted) (text : List ℕ) → own steps ≡ [] → text ≡ [] → IsEnding status Loaded was now lines [] [] → HasText timeout status Loaded lines was now steps receipts text
-unopened_text timeout status Loaded lines was now steps receipts text none empty ends = record { answered = []; are = none_answered timeout lines steps receipts none; ending = []; ends = ends; rest = []; is = append-nil text ∙ empty; whole = inr refl }
+pub unopened_text : (timeout : ℕ) (status : Status) (Loaded : LoadState → Type 0) (Refused : OpenFault → Type 0) (Opened : Type 0) (lines : List Line) (was now : Faults) (steps : List Step) (receipts : List Receipted) (text : List ℕ) → own steps ≡ [] → text ≡ [] → IsEnding status Loaded Refused Opened was now lines [] []
+    → HasText timeout status Loaded Refused Opened lines was now steps receipts text
+unopened_text timeout status Loaded Refused Opened lines was now steps receipts text none empty ends = record { answered = []; are = none_answered timeout lines steps receipts none; ending = []; ends = ends; is = empty }
 
-pub opening_ends : (fault : OpenFault) (Loaded : LoadState → Type 0) (was now : Faults) (lines : List Line) → IsEnding (status_of_opening fault) Loaded was now lines [] []
-opening_ends (o.Disk call) Loaded was now lines = inl (refl, inl refl)
-opening_ends o.NoMemory Loaded was now lines = inl refl
-opening_ends (o.Directory fault) Loaded was now lines = (refl, refl)
-opening_ends (o.FileIdsSpent highest) Loaded was now lines = (refl, refl)
-opening_ends o.NotBuilt Loaded was now lines = (refl, refl)
+pub opening_ends : (fault : OpenFault) (config : Config) (lists : Lists) (old new : Option Past) (Loaded : LoadState → Type 0) (Opened : Type 0) (was now : Faults) (lines : List Line) → IsOfRefusedOpening config lists old new was now fault → IsEnding (status_of_opening fault) Loaded (IsOfRefusedOpening config lists old new was now) Opened was now lines [] []
+opening_ends (o.Disk call) config lists old new Loaded Opened was now lines refused = inl ((call, refused), refl, refl)
+opening_ends o.NoMemory config lists old new Loaded Opened was now lines refused = (refl, inl refused.cause)
+opening_ends (o.Directory fault) config lists old new Loaded Opened was now lines refused = (refused, refl, refl)
+opening_ends (o.FileIdsSpent highest) config lists old new Loaded Opened was now lines refused = (refused, refl, refl)
+opening_ends o.NotBuilt config lists old new Loaded Opened was now lines refused = (refused, refl, refl)
 
 -- why a run ended whose opening was refused
 pub opening_cause : (config : Config) (lists : Lists) (fault : OpenFault) (old new : Option Past) (was now : Faults) → HasOpenCause config fault (Some lists) old new was now → HasRunCause config lists (status_of_opening fault) old new was now
@@ -242,13 +250,6 @@ opening_cause config lists o.NoMemory old new was now cause = tt
 opening_cause config lists (o.Directory fault) old new was now cause = (cause.0, cause.1)
 opening_cause config lists (o.FileIdsSpent highest) old new was now cause = cause
 opening_cause config lists o.NotBuilt old new was now cause = (cause.0, cause.1)
-
-pub opening_refused : (fault : OpenFault) → is_of_refused (status_of_opening fault) ≡ true
-opening_refused (o.Disk call) = refl
-opening_refused o.NoMemory = refl
-opening_refused (o.Directory fault) = refl
-opening_refused (o.FileIdsSpent highest) = refl
-opening_refused o.NotBuilt = refl
 
 -- what the opening noted is owed, and its last receipt counts all its appends
 begun_owing : (config : Config) (l : Lists) (appended durable waiting end : ℕ) → rolled l.steps ≡ l.steps → durable ≡ appended → waiting ≡ 0 → appended ≡ length (history_of l.steps) → IsLastCount durable l.receipts → end ≡ end_of (history_of l.steps) → AreOwedAtOpening config l → IsOwing appended [] config l appended durable waiting end
@@ -315,7 +316,7 @@ between_cause (s.Directory fault) was first now le cause = absurd cause
 between_cause (s.FileIdsSpent highest) was first now le cause = absurd cause
 between_cause (s.NotBuilt part) was first now le cause = absurd cause
 
-pub refusal_cause : (T : Type 0) (refusal : Refusal) (was first now last : Faults) → was.0 ≤ first.0 → now.0 ≤ last.0 → HasReplayCause {T = T} (Err refusal) first now → HasDiskCause (status_of refusal) was last
+pub refusal_cause : (T : Type 0) (refusal : Refusal) (was first now last : Faults) → was.0 ≤ first.0 → now.0 ≤ last.0 → HasCause {T = T} (Err refusal) first now → HasDiskCause (status_of refusal) was last
 refusal_cause T (r.Disk call) was first now last before behind cause = later (cause.0) where
   later : Rose first.0 now.0 → Rose was.0 last.0
   later rose = omega (arith, before, behind, rose)

@@ -16,7 +16,7 @@ HasSinkCount s.DiskFault old new = Unit {0}
 HasSinkCount s.NoMemory old new = Unit {0}
 HasSinkCount _ old new = new ≡ old
 
--- the disk's: a call has failed only with status 6, or where there was no memory to write its line
+-- the disk's: a call has failed only with status 6, or where memory was short besides
 abbrev pub HasDiskCount : Status → Faults → Faults → Type 0
 HasDiskCount s.DiskFault was now = Unit {0}
 HasDiskCount s.NoMemory was now = Unit {0}

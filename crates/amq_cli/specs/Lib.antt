@@ -1,15 +1,15 @@
 pub mod Words
 pub mod Statuses
 pub mod Counts
-pub mod Ended
 pub mod Input
 pub mod Output
 pub mod Replay
 pub mod Playing
 pub mod Labelled
-pub mod Outcomes
+pub mod LineAnswers
 pub mod Script
 pub mod Offline
 pub mod Owed
 pub mod Report
 pub mod Outcome
+pub mod Replaying

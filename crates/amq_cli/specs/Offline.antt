@@ -1,9 +1,10 @@
 -- What the program's commands leave.
-use Rattle.std.specs.Prelude.{◌≡◌, ◌⊎◌, ℕ, ◌+◌, ◌<◌, ◌≤◌, Bool, true, false, List, [], ◌∷◌, ◌++◌, length, Option, None, Some, option_map, IfSome}
+use Rattle.std.specs.Prelude.{◌≡◌, ◌≢◌, ◌⊎◌, ℕ, ◌+◌, ◌<◌, ◌≤◌, Bool, true, false, List, [], ◌∷◌, ◌++◌, length, Option, None, Some, option_map, IfSome}
 use Rattle.std.specs.FinMap as finite
 use Rattle.amq_model.specs.declared.script.Line.{Line}
 use Rattle.amq_model.specs.declared.script.Line.TheVariants as l
 use Rattle.amq_model.specs.declared.config.Config.{Config}
+use Rattle.amq_model.specs.declared.directory.OpenFault.{OpenFault}
 use Rattle.amq_model.specs.declared.directory.OpenFault.TheVariants as o
 use Rattle.amq_model.specs.Legal.{AreLegal, AreLegalOfRefused, rolled_back}
 use Rattle.amq_model.specs.declared.history.Step.{Step}
@@ -15,13 +16,16 @@ use Rattle.amq_model.specs.LoadCalls.{AreCalls, AreFirstCalls, Makes, load_calls
 use Rattle.amq_model.specs.Directory.{Loads}
 use Rattle.amq_model.specs.Effect.{result_of}
 use Rattle.amq_model.specs.Files.{Files, Image, IsReading}
-use Rattle.amq_model.specs.Leaves.{Told, OnlyAsks, IsThere}
+use Rattle.amq_model.specs.Leaves.{Leaves, Told, OnlyAsks, IsThere, Syncs}
 use Rattle.amq_model.specs.Names.{control_name}
 use Rattle.amq_model.specs.Texts.{report_of, refusal_line}
 use Rattle.amq_io.specs.Cause.{Rose, Faults, NoneFailed}
 use Rattle.amq_loader.specs.Loads.{IsFaulty, IsStateOf}
-use Rattle.amq_engine.specs.Engine.{AreAppended}
-use Rattle.amq_engine.specs.Opening.{HasBase, HasNumbers, StandBehind, HasOpenCause}
+use Rattle.amq_engine.specs.Engine.{IsBlank, AreAppended, AreSpentAtLast}
+use Rattle.amq_engine.specs.Owed.{AreOwedAtOpening}
+use Rattle.amq_engine.specs.Receipts.{BeginsBySyncs}
+use Rattle.amq_engine.specs.Opening.{AreFirstRollbacks, HasBase, HasNumbers, StandBehind, HasOpenCause}
+use Rattle.amq_engine.specs.DataFiles.{HasFilesOf}
 use Rattle.amq_engine.specs.Lists.{Lists}
 use Rattle.amq_engine.specs.declared.chronicle.Kept.{Kept}
 use Rattle.amq_engine.specs.declared.chronicle.Receipted.{Receipted}
@@ -32,7 +36,9 @@ use Rattle.amq_cli.specs.declared.status.Status.TheVariants as s
 use Rattle.amq_cli.specs.declared.status.Unbuilt.TheVariants as u
 use Rattle.amq_cli.specs.declared.words.Task.{Task}
 use Rattle.amq_cli.specs.declared.words.Task.TheVariants as t
-use Rattle.amq_cli.specs.Output.{IsPartWritten}
+use Rattle.amq_cli.specs.Counts.{HasDiskCount}
+use Rattle.amq_cli.specs.Output.{IsPartWritten, IsBrokenOff}
+use Rattle.amq_cli.specs.Statuses.{status_of_opening}
 use Rattle.amq_cli.specs.Replay.{Answered, AreAnswered, HasReplayed, reply_lines, script_lines}
 use Rattle.amq_cli.specs.Script.{IsSaid, input_limit}
 
@@ -97,22 +103,45 @@ HasRunCause config lists (s.NotBuilt u.Directory) old new was now = OnlyAsks old
 HasRunCause config lists (s.FileIdsSpent highest) old new was now = HasOpenCause config (o.FileIdsSpent highest) (Some lists) old new was now
 HasRunCause config lists status old new was now = HasDiskCause status was now
 
--- with this status an opening may have been refused
-abbrev pub is_of_refused : Status → Bool
-is_of_refused s.DiskFault = true
-is_of_refused (s.Directory fault) = true
-is_of_refused s.NoMemory = true
-is_of_refused (s.FileIdsSpent highest) = true
-is_of_refused (s.NotBuilt u.Directory) = true
-is_of_refused _ = false
+-- What an opening leaves that was refused for this fault: the steps are the first of its rollbacks alone, each appended and each owed where it is durable; and without a receipt nothing is noted.
+pub record IsOfRefusedOpening (config : Config) (l : Lists) (old new : Option Past) (was now : Faults) (fault : OpenFault) : Type 0 where
+  pub cause : HasOpenCause config fault (Some l) old new was now
+  pub legal : AreLegalOfRefused l.base l.steps config
+  pub appended : AreAppended (length l.steps) l.steps
+  pub base : IsBlank l ⊎ Told old (HasBase config.user_version l.base)
+  pub rollbacks : IsBlank l ⊎ Told old (AreFirstRollbacks config l)
+  pub spent : AreSpentAtLast [] l.steps
+  pub unnoted : l.receipts ≡ [] → IsBlank l
+  pub begins : BeginsBySyncs l.receipts old new
+  pub owed : AreOwedAtOpening config l
 
--- The steps are a legal history; or the opening was refused, the steps are the first of its rollbacks alone, and nothing is written.
-abbrev pub HasLegal : Status → Config → List Placed → List Step → Type 0 → Type 0
-HasLegal status config base steps Silent = AreLegal base steps config ⊎ ((is_of_refused status ≡ true) × AreLegalOfRefused base steps config × Silent)
+-- the opening was refused, and the run has the status of that
+abbrev pub IsRefused : Status → Config → Lists → Option Past → Option Past → Faults → Faults → Type 0
+IsRefused status config l old new was now = (fault : OpenFault) × (status ≡ status_of_opening fault) × IsOfRefusedOpening config l old new was now fault
 
--- Each transaction that the opening rolls back has its ROLLBACK among the appends; or the opening was refused, and each of its steps was appended.
-abbrev pub HasRolledBack : Status → List Placed → List Step → Type 0
-HasRolledBack status base steps = AreAppended (length (rolled_back base)) steps ⊎ ((is_of_refused status ≡ true) × AreAppended (length steps) steps)
+-- What a run leaves whose opening wasn't refused: a receipt, the steps of a legal history, and among the appends a ROLLBACK of each transaction that the opening rolls back.
+pub record IsOfOpened (config : Config) (l : Lists) : Type 0 where
+  pub legal : AreLegal l.base l.steps config
+  pub rolled : AreAppended (length (rolled_back l.base)) l.steps
+  pub receipted : l.receipts ≢ []
+
+-- The steps are a legal history; or the opening was refused, and nothing is written.
+abbrev pub HasLegal : Status → Config → Lists → Option Past → Option Past → Faults → Faults → Type 0 → Type 0
+HasLegal status config l old new was now Silent = AreLegal l.base l.steps config ⊎ (IsRefused status config l old new was now × Silent)
+
+-- Each transaction that the opening rolls back has its ROLLBACK among the appends; or the opening was refused, and nothing is written.
+abbrev pub HasRolledBack : Status → Config → Lists → Option Past → Option Past → Faults → Faults → Type 0 → Type 0
+HasRolledBack status config l old new was now Silent = AreAppended (length (rolled_back l.base)) l.steps ⊎ (IsRefused status config l old new was now × Silent)
+
+-- all lines were answered, and the report was made
+abbrev pub is_done : Status → Bool
+is_done s.Ok = true
+is_done s.SinkFault = true
+is_done _ = false
+
+-- Which data files a run of these steps leaves, and which files it leaves alone: those of its history, all of them where all was done, and else maybe with one file more; or nothing was done but that files were made durable, as where the opening was refused at once.
+abbrev pub HasRunFiles : Status → Config → List Step → Option Past → Option Past → Type 0
+HasRunFiles status config steps old new = HasFilesOf (is_done status) config (history_of steps) old new ⊎ ((is_done status ≡ false) × Leaves Syncs Syncs old new)
 
 -- Where there is a receipt, the appends stand one behind the other from the head of the file on that has the number behind all that the directory had: each right behind the one before it where the file size allows that, else first in the file of the next number.
 abbrev pub AreInNewFiles : Config → Option Past → List Step → List Receipted → Type 0
@@ -130,56 +159,28 @@ IsReport Loaded lines answered ending = AreAll lines answered × ((state : LoadS
 abbrev pub IsDiskLine : Faults → Faults → List Line → List Answered → List ℕ → Type 0
 IsDiskLine was now lines answered ending = (length answered < length lines) × Rose was.0 now.0 × ((call : DiskCall) × (now.1 ≡ Some call) × (ending ≡ refusal_line (r.Disk call)))
 
--- What stands behind the lines of what was answered: the report, the line of a disk call that failed, or nothing. With a disk fault nothing stands there only where the opening was refused, or where all lines were answered.
-abbrev pub IsEnding : Status → (LoadState → Type 0) → Faults → Faults → List Line → List Answered → List ℕ → Type 0
-IsEnding s.Ok Loaded was now lines answered ending = IsReport Loaded lines answered ending
-IsEnding s.SinkFault Loaded was now lines answered ending = IsReport Loaded lines answered ending
-IsEnding s.DiskFault Loaded was now lines answered ending = ((ending ≡ []) × ((answered ≡ []) ⊎ AreAll lines answered)) ⊎ IsDiskLine was now lines answered ending
-IsEnding s.NoMemory Loaded was now lines answered ending = (ending ≡ []) ⊎ IsDiskLine was now lines answered ending ⊎ IsReport Loaded lines answered ending
-IsEnding s.SourceFault Loaded was now lines answered ending = (ending ≡ []) × (answered ≡ [])
-IsEnding (s.Directory fault) Loaded was now lines answered ending = (ending ≡ []) × (answered ≡ [])
-IsEnding (s.FileIdsSpent highest) Loaded was now lines answered ending = (ending ≡ []) × (answered ≡ [])
-IsEnding (s.InputTooLong limit) Loaded was now lines answered ending = (ending ≡ []) × (answered ≡ [])
-IsEnding (s.NotBuilt part) Loaded was now lines answered ending = (ending ≡ []) × (answered ≡ [])
+-- What stands behind the lines of what was answered: the report, the line of a disk call that failed, or nothing. With a disk fault nothing stands there only where the opening was refused for it, and no line was answered, or where all were; and the line only where the opening wasn't refused. For want of memory nothing stands there: the line of a disk call lacks only behind an opening that wasn't refused, where the call failed besides.
+abbrev pub IsEnding : Status → (LoadState → Type 0) → (OpenFault → Type 0) → Type 0 → Faults → Faults → List Line → List Answered → List ℕ → Type 0
+IsEnding s.Ok Loaded Refused Opened was now lines answered ending = Opened × IsReport Loaded lines answered ending
+IsEnding s.SinkFault Loaded Refused Opened was now lines answered ending = Opened × IsReport Loaded lines answered ending
+IsEnding s.DiskFault Loaded Refused Opened was now lines answered ending =
+    (((call : DiskCall) × Refused (o.Disk call)) × (answered ≡ []) × (ending ≡ [])) ⊎ (Opened × (((ending ≡ []) × AreAll lines answered) ⊎ IsDiskLine was now lines answered ending))
+IsEnding s.NoMemory Loaded Refused Opened was now lines answered ending = (ending ≡ []) × (NoneFailed was now ⊎ (Opened × ((line : List ℕ) × IsDiskLine was now lines answered line)))
+IsEnding (s.Directory fault) Loaded Refused Opened was now lines answered ending = Refused (o.Directory fault) × (answered ≡ []) × (ending ≡ [])
+IsEnding (s.FileIdsSpent highest) Loaded Refused Opened was now lines answered ending = Refused (o.FileIdsSpent highest) × (answered ≡ []) × (ending ≡ [])
+IsEnding (s.NotBuilt u.Directory) Loaded Refused Opened was now lines answered ending = Refused o.NotBuilt × (answered ≡ []) × (ending ≡ [])
+IsEnding (s.NotBuilt u.Words) Loaded Refused Opened was now lines answered ending = (answered ≡ []) × (ending ≡ [])
+IsEnding (s.NotBuilt u.Script) Loaded Refused Opened was now lines answered ending = (answered ≡ []) × (ending ≡ [])
+IsEnding s.SourceFault Loaded Refused Opened was now lines answered ending = (answered ≡ []) × (ending ≡ [])
+IsEnding (s.InputTooLong limit) Loaded Refused Opened was now lines answered ending = (answered ≡ []) × (ending ≡ [])
 
--- memory was short
-abbrev pub is_short : Status → Bool
-is_short s.NoMemory = true
-is_short _ = false
-
--- The text of a run with this status, however it ended: a front of the lines of what was answered and then of an ending, and the whole of them unless memory was short.
-pub record HasText (timeout : ℕ) (status : Status) (Loaded : LoadState → Type 0) (lines : List Line) (was now : Faults) (steps : List Step) (receipts : List Receipted) (text : List ℕ) : Type 0 where
+-- The text of a run with this status, however it ended: the lines of what was answered, and then an ending.
+pub record HasText (timeout : ℕ) (status : Status) (Loaded : LoadState → Type 0) (Refused : OpenFault → Type 0) (Opened : Type 0) (lines : List Line) (was now : Faults) (steps : List Step) (receipts : List Receipted) (text : List ℕ) : Type 0 where
   pub answered : List Answered
   pub are : AreAnswered timeout lines steps receipts answered
   pub ending : List ℕ
-  pub ends : IsEnding status Loaded was now lines answered ending
-  pub rest : List ℕ
-  pub is : text ++ rest ≡ reply_lines answered ++ ending
-  pub whole : (is_short status ≡ true) ⊎ (rest ≡ [])
-
--- ---- want of memory
-
--- the text is a front of the lines of what was answered
-pub record HasFront (timeout : ℕ) (lines : List Line) (steps : List Step) (receipts : List Receipted) (text : List ℕ) : Type 0 where
-  pub answered : List Answered
-  pub are : AreAnswered timeout lines steps receipts answered
-  pub rest : List ℕ
-  pub is : text ++ rest ≡ reply_lines answered
-
--- A disk call has failed in a run of these lines, and the text breaks off before the end of what a run writes that ends for it.
-pub record BreaksOff (timeout : ℕ) (lines : List Line) (was now : Faults) (steps : List Step) (receipts : List Receipted) (text : List ℕ) : Type 0 where
-  pub rose : Rose was.0 now.0
-  pub answered : List Answered
-  pub are : AreAnswered timeout lines steps receipts answered
-  pub ending : List ℕ
-  pub ends : IsEnding s.DiskFault (λ state. ⊥) was now lines answered ending
-  pub rest : List ℕ
-  pub is : text ++ rest ≡ reply_lines answered ++ ending
-  pub short : 0 < length rest
-
--- What a run has left that ended for want of memory, before its text is written: no disk call has failed, and the text is a front of the lines of what was answered; or one has, and the text breaks off.
-abbrev pub IsShortRun : ℕ → List Line → Faults → Faults → List Step → List Receipted → List ℕ → Type 0
-IsShortRun timeout lines was now steps receipts text = (NoneFailed was now × HasFront timeout lines steps receipts text) ⊎ BreaksOff timeout lines was now steps receipts text
+  pub ends : IsEnding status Loaded Refused Opened was now lines answered ending
+  pub is : text ≡ reply_lines answered ++ ending
 
 -- ---- the whole run
 
@@ -190,6 +191,11 @@ IsWritten text old new = new ≡ option_map (λ taken. taken ++ text) old
 -- a run ends as it would without a sink, but where the sink failed or had no memory
 abbrev pub IsEnd : Status → Status → ℕ → ℕ → Type 0
 IsEnd status outcome old new = (status ≡ outcome) ⊎ (status ≡ s.NoMemory) ⊎ ((status ≡ s.SinkFault) × (outcome ≡ s.Ok) × Rose old new)
+
+-- How a run ends whose text is given to the sink. It ends as it did, and all is written or the sink failed; with status 5, where only the sink failed; or with status 8, where the sink had no memory and broke off.
+abbrev pub IsGiven : Status → Status → List ℕ → ℕ → ℕ → Option (List ℕ) → Option (List ℕ) → Type 0
+IsGiven status outcome text old new taken_old taken_new =
+    ((status ≡ outcome) × (IsWritten text taken_old taken_new ⊎ Rose old new)) ⊎ ((status ≡ s.SinkFault) × (outcome ≡ s.Ok) × Rose old new) ⊎ ((status ≡ s.NoMemory) × (new ≡ old) × IsBrokenOff text taken_old taken_new)
 
 -- the lines of what was asked for: those that the source held, all of which is read; or the one that settles a transaction, and the source isn't read
 abbrev pub HasLines : Option Task → List Line → Option (List ℕ) → Option (List ℕ) → Type 0
@@ -222,24 +228,19 @@ is_past_script (s.FileIdsSpent highest) = true
 is_past_script (s.NotBuilt u.Directory) = true
 is_past_script _ = false
 
--- What a run with status 8 has left, by the bytes that the sink has taken. No call of the disk or the sink has failed; or only one of the sink has, which took a front of the lines of what was answered; or one of the disk has, and what the sink took breaks off before the end of what a run writes that ends for it.
-pub record HasShort (timeout : ℕ) (lines : List Line) (was now : Faults) (sink_old sink_new : ℕ) (taken_old taken_new : Option (List ℕ)) (steps : List Step) (receipts : List Receipted) : Type 0 where
-  pub bytes : List ℕ
-  pub taken : IsWritten bytes taken_old taken_new
-  pub cause : (NoneFailed was now × (sink_new ≡ sink_old)) ⊎ (NoneFailed was now × HasFront timeout lines steps receipts bytes) ⊎ BreaksOff timeout lines was now steps receipts bytes
-
--- What was written of a run of these lines, with every status: a front of its text, and all of it unless the sink failed or memory was short.
-pub record IsTextOf (timeout : ℕ) (status : Status) (Loaded : LoadState → Type 0) (lines : List Line) (was now : Faults) (sink_old sink_new : ℕ) (taken_old taken_new : Option (List ℕ)) (steps : List Step) (receipts : List Receipted) : Type 0 where
+-- What was written of a run of these lines, with every status: how the run ended before its text was given to the sink, that text, and what the sink took of it.
+pub record IsTextOf (timeout : ℕ) (status : Status) (Loaded : LoadState → Type 0) (Refused : OpenFault → Type 0) (Opened : Type 0) (lines : List Line) (was now : Faults) (sink_old sink_new : ℕ) (taken_old taken_new : Option (List ℕ)) (steps : List Step) (receipts : List Receipted) : Type 0 where
+  pub outcome : Status
+  pub count : HasDiskCount outcome was now
   pub text : List ℕ
-  pub has : HasText timeout status Loaded lines was now steps receipts text
+  pub has : HasText timeout outcome Loaded Refused Opened lines was now steps receipts text
   pub part : IsPartWritten text taken_old taken_new
-  pub whole : IsWritten text taken_old taken_new ⊎ Rose sink_old sink_new ⊎ (is_short status ≡ true)
-  pub short : status ≡ s.NoMemory → HasShort timeout lines was now sink_old sink_new taken_old taken_new steps receipts
+  pub given : IsGiven status outcome text sink_old sink_new taken_old taken_new
 
--- What was written, with every status, by a command that opens the journal: a front of the text of a run of its lines, and all of it unless the sink failed or memory was short. Where the script wasn't read there is no line and no text.
-pub record IsOutput (task : Option Task) (timeout : ℕ) (status : Status) (Loaded : LoadState → Type 0) (left_old left_new : Option (List ℕ)) (was now : Faults) (sink_old sink_new : ℕ) (taken_old taken_new : Option (List ℕ)) (steps : List Step) (receipts : List Receipted) : Type 0 where
+-- What was written, with every status, by a command that opens the journal: a front of the text of a run of its lines, and all of it unless the sink failed or had no memory. Where the script wasn't read there is no line and no text.
+pub record IsOutput (task : Option Task) (timeout : ℕ) (status : Status) (Loaded : LoadState → Type 0) (Refused : OpenFault → Type 0) (Opened : Type 0) (left_old left_new : Option (List ℕ)) (was now : Faults) (sink_old sink_new : ℕ) (taken_old taken_new : Option (List ℕ)) (steps : List Step) (receipts : List Receipted) : Type 0 where
   pub lines : List Line
-  pub written : IsTextOf timeout status Loaded lines was now sink_old sink_new taken_old taken_new steps receipts
+  pub written : IsTextOf timeout status Loaded Refused Opened lines was now sink_old sink_new taken_old taken_new steps receipts
   pub said : ((is_past_script status ≡ false) × (lines ≡ []) × (written.text ≡ [])) ⊎ HasLines task lines left_old left_new
 
 -- what `print` wrote: nothing more, where it has no report

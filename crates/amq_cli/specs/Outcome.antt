@@ -1,25 +1,28 @@
 -- What a run of the program promises, in the order in which a reader wants it.
-use Rattle.std.specs.Prelude.{◌≡◌, ◌⊎◌, ◌↔◌, ℕ, ◌≤◌, true, false, List, [], length, Option, None, Some}
+use Rattle.std.specs.Prelude.{◌≡◌, ◌≢◌, ◌⊎◌, ◌↔◌, ℕ, ◌≤◌, true, false, List, [], length, Option, None, Some}
 use Rattle.amq_model.specs.declared.config.Config.{Config}
 use Rattle.amq_model.specs.declared.script.Line.{Line}
 use Rattle.amq_model.specs.Answers.{history_of}
 use Rattle.amq_model.specs.Calls.{Past}
 use Rattle.amq_model.specs.Leaves.{Told, LeavesNothingNew}
+use Rattle.amq_model.specs.Legal.{AreLegal, rolled_back}
 use Rattle.amq_io.specs.Cause.{Faults}
 use Rattle.amq_engine.specs.declared.chronicle.Kept.{Kept}
-use Rattle.amq_engine.specs.Engine.{IsBlank, AreSpentAtLast}
+use Rattle.amq_engine.specs.DataFiles.{HasFilesOf, HasFilesSoFar}
+use Rattle.amq_engine.specs.Engine.{EngineOf, IsBlank, AreAppended, AreSpentAtLast}
 use Rattle.amq_engine.specs.Lists.{Lists}
-use Rattle.amq_engine.specs.Opening.{HasBase}
-use Rattle.amq_engine.specs.Receipts.{IsCrashSafe, IsLastCount, BeginsBySyncs}
+use Rattle.amq_engine.specs.Opening.{HasBase, StandsFrom, StandBehind}
+use Rattle.amq_engine.specs.Receipts.{IsCrashSafe, IsLastCount, GoesOn, BeginsBySyncs}
 use Rattle.amq_cli.specs.declared.status.Status.{Status}
 use Rattle.amq_cli.specs.declared.status.Status.TheVariants as s
 use Rattle.amq_cli.specs.declared.status.Unbuilt.TheVariants as u
 use Rattle.amq_cli.specs.declared.words.Task.{Task}
 use Rattle.amq_cli.specs.declared.words.Task.TheVariants as t
 use Rattle.amq_cli.specs.Counts.{HasSourceCount, HasSinkCount, HasDiskCount, HasPrintCounts}
-use Rattle.amq_cli.specs.Offline.{lists_of, HasCause, HasLegal, HasRolledBack, AreInNewFiles, HasPlayCause, IsRun, IsPlayed, IsTextOf, IsOutput, IsPrint, IsScript, IsLoadedState, IsWritten, is_before_opening, is_past_script, is_unwritten}
+use Rattle.amq_cli.specs.Offline.{lists_of, is_done, HasCause, HasRun, HasRunOn, HasRunFiles, HasRunCause, HasDiskCause, HasText, HasLegal, HasRolledBack, IsOfOpened, IsOfRefusedOpening, AreInNewFiles, HasPlayCause, IsRun, IsPlayed, IsTextOf, IsOutput, IsPrint, IsScript, IsLoadedState, IsWritten, is_before_opening, is_past_script, is_unwritten}
 use Rattle.amq_cli.specs.Output.{IsPartWritten}
 use Rattle.amq_cli.specs.Owed.{HasOwed, IsOwedRun}
+use Rattle.amq_cli.specs.Playing.{KeepsFirst}
 use Rattle.amq_cli.specs.Words.{prints, reads_script}
 
 -- ---- what is seen of a disk and of a stream
@@ -66,6 +69,74 @@ pub record IsTold (config : Config) (lists : Lists) (old new : Option Past) (mom
   pub stands : AreInNewFiles config old lists.steps lists.receipts
   pub spent : AreSpentAtLast [] lists.steps
 
+-- What giving these lines to an open journal promises, closing it and loading it again. Its parts mean what they do in `Outcome`.
+pub record RanOn {D : Type 0} (lines : List Line) (status : Status) (kept : Kept) (text' : List ℕ)
+    (engine : EngineOf D Kept) (disk disk' : SeenDisk D) : Type 0 where
+  pub crash_safe : IsCrashSafe disk'.past disk'.moment engine.config.user_version (lists_of kept)
+  pub durable :
+      status ≡ s.Ok
+      → IsLastCount (length (history_of kept.steps.items)) kept.receipts.items
+  pub owed : HasOwed engine.config lines kept.steps.items kept.receipts.items
+  pub run :
+      status ≡ s.Ok
+      → HasRunOn engine.config lines text' disk'.past kept.base kept.steps.items kept.receipts.items
+  pub text :
+      HasText engine.config.buffer_timeout status
+      (IsLoadedState disk'.past engine.config.user_version kept.base kept.steps.items)
+      (λ fault. ⊥) (Unit {0}) lines disk.faults disk'.faults
+      kept.steps.items kept.receipts.items text'
+  pub files :
+      (first : Option Past)
+      → HasFilesSoFar true engine.config engine.file engine.end engine.highest
+      (lists_of engine.chronicle) first disk.past
+      → HasFilesOf (is_done status) engine.config (history_of kept.steps.items) first disk'.past
+  pub stands :
+      (first : ℕ)
+      → StandsFrom engine.config first engine.file engine.end (lists_of engine.chronicle)
+      → StandBehind engine.config first 16 (history_of kept.steps.items)
+  pub legal : AreLegal kept.base kept.steps.items engine.config
+  pub rolled : AreAppended (length (rolled_back kept.base)) kept.steps.items
+  pub spent : AreSpentAtLast [] kept.steps.items
+  pub receipted : kept.receipts.items ≢ []
+  pub cause : HasDiskCause status disk.faults disk'.faults
+  pub count : HasDiskCount status disk.faults disk'.faults
+  pub later : disk.faults.0 ≤ disk'.faults.0
+  pub base : kept.base ≡ engine.chronicle.base
+  pub goes_on : GoesOn disk.past disk'.past
+  pub first : KeepsFirst (lists_of engine.chronicle) (lists_of kept)
+
+-- What a run of these lines on a journal promises, whose text is handed back. Its parts mean what they do in `Outcome`.
+pub record Ran {D : Type 0} (config : Config) (lines : List Line) (status : Status) (kept : Kept)
+    (text' : List ℕ) (disk disk' : SeenDisk D) : Type 0 where
+  pub told : IsTold config (lists_of kept) disk.past disk'.past disk'.moment
+  pub durable :
+      status ≡ s.Ok
+      → IsLastCount (length (history_of kept.steps.items)) kept.receipts.items
+  pub owed : HasOwed config lines kept.steps.items kept.receipts.items
+  pub run :
+      status ≡ s.Ok
+      → HasRun config lines text' disk.past disk'.past
+      kept.base kept.steps.items kept.receipts.items
+  pub text :
+      HasText config.buffer_timeout status
+      (IsLoadedState disk'.past config.user_version kept.base kept.steps.items)
+      (IsOfRefusedOpening config (lists_of kept) disk.past disk'.past disk.faults disk'.faults)
+      (IsOfOpened config (lists_of kept))
+      lines disk.faults disk'.faults kept.steps.items kept.receipts.items text'
+  pub files : HasRunFiles status config kept.steps.items disk.past disk'.past
+  pub legal :
+      HasLegal status config (lists_of kept) disk.past disk'.past disk.faults disk'.faults
+      (text' ≡ [])
+  pub rolled :
+      HasRolledBack status config (lists_of kept) disk.past disk'.past disk.faults disk'.faults
+      (text' ≡ [])
+  pub cause :
+      HasRunCause config (lists_of kept) status disk.past disk'.past disk.faults disk'.faults
+  pub count : HasDiskCount status disk.faults disk'.faults
+  pub later : disk.faults.0 ≤ disk'.faults.0
+  pub unbuilt : is_unwritten status ≡ true → text' ≡ []
+  pub silent : kept.receipts.items ≡ [] → text' ≡ []
+
 -- What a run of these lines on a journal promises, whose text is written to the sink. Its parts mean what they do in `Outcome`.
 pub record Played {D K : Type 0} (config : Config) (lines : List Line) (status : Status) (kept : Kept)
     (disk disk' : SeenDisk D) (sink sink' : SeenStream K) : Type 0 where
@@ -85,10 +156,17 @@ pub record Played {D K : Type 0} (config : Config) (lines : List Line) (status :
   pub output :
       IsTextOf config.buffer_timeout status
       (IsLoadedState disk'.past config.user_version kept.base kept.steps.items)
+      (IsOfRefusedOpening config (lists_of kept) disk.past disk'.past disk.faults disk'.faults)
+      (IsOfOpened config (lists_of kept))
       lines disk.faults disk'.faults sink.faults sink'.faults sink.bytes sink'.bytes
       kept.steps.items kept.receipts.items
-  pub legal : HasLegal status config kept.base kept.steps.items (sink'.bytes ≡ sink.bytes)
-  pub rolled : HasRolledBack status kept.base kept.steps.items
+  pub files : HasRunFiles status config kept.steps.items disk.past disk'.past
+  pub legal :
+      HasLegal status config (lists_of kept) disk.past disk'.past disk.faults disk'.faults
+      (sink'.bytes ≡ sink.bytes)
+  pub rolled :
+      HasRolledBack status config (lists_of kept) disk.past disk'.past disk.faults disk'.faults
+      (sink'.bytes ≡ sink.bytes)
   pub cause :
       HasPlayCause config (lists_of kept) status disk.past disk'.past
       sink.faults sink'.faults disk.faults disk'.faults
@@ -98,7 +176,7 @@ pub record Played {D K : Type 0} (config : Config) (lines : List Line) (status :
   pub unwritten : is_unwritten status ≡ true → sink'.stream ≡ sink.stream
   pub silent : kept.receipts.items ≡ [] → sink'.bytes ≡ sink.bytes
 
--- What a run of the program promises, by what it was asked for, its configuration, how it ended, what it hands back, and its disk, source and sink at entry and at exit: crash safety (`told`), then the receipts (`durable`, `owed`), what was done and written (`run` with status 0, `run_unwritten` with 5, `output` with each, `print` of a print), that the steps are those of a journal of one thread (`legal`, `rolled`), why it ended so (`words`, `cause`, and the counts of failed calls), and what stays as it was.
+-- What a run of the program promises, by what it was asked for, its configuration, how it ended, what it hands back, and its disk, source and sink at entry and at exit: crash safety (`told`), then the receipts (`durable`, `owed`), what was done and written (`run` with status 0, `run_unwritten` with 5, `output` with each, `print` of a print), which files there are (`files`), that the steps are those of a journal of one thread (`legal`, `rolled`), why it ended so (`words`, `cause`, and the counts of failed calls), and what stays as it was.
 pub record Outcome {D S K : Type 0} (task : Option Task) (config : Config) (status : Status) (kept : Kept)
     (disk disk' : SeenDisk D) (source source' : SeenStream S) (sink sink' : SeenStream K) : Type 0 where
   pub told : IsTold config (lists_of kept) disk.past disk'.past disk'.moment
@@ -123,6 +201,8 @@ pub record Outcome {D S K : Type 0} (task : Option Task) (config : Config) (stat
       prints task ≡ false
       → IsOutput task config.buffer_timeout status
       (IsLoadedState disk'.past config.user_version kept.base kept.steps.items)
+      (IsOfRefusedOpening config (lists_of kept) disk.past disk'.past disk.faults disk'.faults)
+      (IsOfOpened config (lists_of kept))
       source.bytes source'.bytes disk.faults disk'.faults
       sink.faults sink'.faults sink.bytes sink'.bytes
       kept.steps.items kept.receipts.items
@@ -134,8 +214,13 @@ pub record Outcome {D S K : Type 0} (task : Option Task) (config : Config) (stat
       task ≡ Some t.Print
       → IsPrint status config.user_version disk.past disk'.past sink.bytes sink'.bytes
       kept.steps.items kept.receipts.items
-  pub legal : HasLegal status config kept.base kept.steps.items (sink'.bytes ≡ sink.bytes)
-  pub rolled : HasRolledBack status kept.base kept.steps.items
+  pub files : prints task ≡ false → HasRunFiles status config kept.steps.items disk.past disk'.past
+  pub legal :
+      HasLegal status config (lists_of kept) disk.past disk'.past disk.faults disk'.faults
+      (sink'.bytes ≡ sink.bytes)
+  pub rolled :
+      HasRolledBack status config (lists_of kept) disk.past disk'.past disk.faults disk'.faults
+      (sink'.bytes ≡ sink.bytes)
   pub words : (status ≡ s.NotBuilt u.Words) ↔ (task ≡ None)
   pub cause :
       HasCause config (lists_of kept) status source.bytes disk.past disk'.past

@@ -291,14 +291,12 @@ abbrev pub IsClosedBy : Refusal → Option DiskCall → Type 0
 IsClosedBy (r.Disk call) closed = closed ≡ Some call
 IsClosedBy _ closed = Unit {0}
 
--- The text is a front of the lines of what was answered and then of this ending: the whole of them where a line wasn't answered and memory wasn't short, and less where all were.
-pub record HasEnded (timeout : ℕ) (lines : List Line) (steps : List Step) (receipts : List Receipted) (text ending : List ℕ) (short : Bool) : Type 0 where
+-- A line of a script wasn't answered: the text has the lines of those before it, and then this ending.
+pub record HasEnded (timeout : ℕ) (lines : List Line) (steps : List Step) (receipts : List Receipted) (text ending : List ℕ) : Type 0 where
   pub answered : List Answered
   pub are : AreAnswered timeout lines steps receipts answered
-  pub rest : List ℕ
-  pub is : text ++ rest ≡ reply_lines answered ++ ending
-  pub whole : (short ≡ true) ⊎ (rest ≡ [])
-  pub early : ((short ≡ true) × (0 < length rest)) ⊎ (length answered < length lines)
+  pub is : text ≡ reply_lines answered ++ ending
+  pub early : length answered < length lines
 
 -- all lines were answered, and the text has their lines
 pub record HasReplayed (timeout : ℕ) (lines : List Line) (steps : List Step) (receipts : List Receipted) (text : List ℕ) : Type 0 where
@@ -306,8 +304,3 @@ pub record HasReplayed (timeout : ℕ) (lines : List Line) (steps : List Step) (
   pub are : AreAnswered timeout lines steps receipts answered
   pub all : length answered ≡ length lines
   pub is : text ≡ reply_lines answered
-
--- it is for want of memory
-abbrev pub is_for_memory : Refusal → Bool
-is_for_memory r.NoMemory = true
-is_for_memory _ = false

@@ -22,10 +22,13 @@ pub enum InputFault {
 
 /// Reads a source to its end.
 pub fn read_whole<S: Source>(alloc: Global, source: &mut S) -> Result<Vec<u8>, InputFault>
-    ensures whole { IfOk result (λ bytes. IsReadWhole bytes.items (S.left source.old) (S.left source.new)) }
+    ensures whole { IfOk result (λ bytes. IsReadWhole bytes.items (S.left source.old)
+        (S.left source.new)) }
     ensures short { IfOk result (λ bytes. length bytes.items ≤ INPUT_LIMIT) }
-    ensures cause { IfErr result (λ fault. HasInputCause INPUT_LIMIT fault (S.left source.old) (S.faults source.old) (S.faults source.new)) }
-    ensures count { IfErr result (λ fault. HasInputCount fault (S.faults source.old) (S.faults source.new)) }
+    ensures cause { IfErr result (λ fault. HasInputCause INPUT_LIMIT fault (S.left source.old)
+        (S.faults source.old) (S.faults source.new)) }
+    ensures count { IfErr result (λ fault. HasInputCount fault (S.faults source.old)
+        (S.faults source.new)) }
     ensures sound { OnOk result (S.faults source.new ≡ S.faults source.old) }
 {
     let mut bytes = Vec::new(alloc);

@@ -50,7 +50,8 @@ impl Labels {
     /// Lets the label stand for this number. Takes no memory.
     pub fn set(&mut self, label: &Name, number: u64)
         requires { is_known self.old label.now ≡ true }
-        ensures { (other : List ℕ) → number_in self.new other ≡ (if same label.now other then number else number_in self.old other) }
+        ensures { (other : List ℕ) → number_in self.new other ≡
+            (if same label.now other then number else number_in self.old other) }
     {
         if let Some(known) = self.numbers.get_mut(label) {
             *known = number;

@@ -19,9 +19,12 @@ pub fn print<D: Disk, K: Sink>(
     disk: &mut D,
     sink: &mut K,
 ) -> Status
-    ensures printed { IsPrinted result user_version (D.past disk.old) (K.taken sink.old) (K.taken sink.new) }
-    ensures cause { HasPrintCause result (K.faults sink.old) (K.faults sink.new) (D.faults disk.old) (D.faults disk.new) }
-    ensures counts { HasPrintCounts result (K.faults sink.old) (K.faults sink.new) (D.faults disk.old) (D.faults disk.new) }
+    ensures printed { IsPrinted result user_version (D.past disk.old) (K.taken sink.old)
+        (K.taken sink.new) }
+    ensures cause { HasPrintCause result (K.faults sink.old) (K.faults sink.new) (D.faults disk.old)
+        (D.faults disk.new) }
+    ensures counts { HasPrintCounts result (K.faults sink.old) (K.faults sink.new)
+        (D.faults disk.old) (D.faults disk.new) }
     ensures unwritten { is_unwritten result ≡ true → sink.new ≡ sink.old }
     ensures unread { result ≡ Status.DiskFault → sink.new ≡ sink.old }
     ensures asks { OnlyAsks (D.past disk.old) (D.past disk.new) }

@@ -20,7 +20,8 @@ const PIECE: usize = 65_536;
 pub fn write_report<K: Sink>(alloc: Global, state: &LoadState, sink: &mut K) -> Status
     ensures status { IsEnd result Status.Ok (K.faults sink.old) (K.faults sink.new) }
     ensures part { IsPartWritten (report_of state.now) (K.taken sink.old) (K.taken sink.new) }
-    ensures ok { result ≡ Status.Ok → IsWritten (report_of state.now) (K.taken sink.old) (K.taken sink.new) }
+    ensures ok { result ≡ Status.Ok → IsWritten (report_of state.now) (K.taken sink.old)
+        (K.taken sink.new) }
     ensures count { (result ≡ Status.SinkFault) ⊎ (K.faults sink.new ≡ K.faults sink.old) }
 {
     match write_lines(alloc, state, sink) {
@@ -32,9 +33,12 @@ pub fn write_report<K: Sink>(alloc: Global, state: &LoadState, sink: &mut K) -> 
 
 /// Writes the lines of the report. Those that the sink hasn't taken yet wait.
 fn write_lines<K: Sink>(alloc: Global, state: &LoadState, sink: &mut K) -> Result<(), SinkError>
-    ensures ok { OnOk result (IsWritten (report_of state.now) (K.taken sink.old) (K.taken sink.new)) }
-    ensures part { OnErr result (IsPartWritten (report_of state.now) (K.taken sink.old) (K.taken sink.new)) }
-    ensures cause { IfErr result (λ error. HasOutputCause error (K.faults sink.old) (K.faults sink.new)) }
+    ensures ok { OnOk result (IsWritten (report_of state.now) (K.taken sink.old)
+        (K.taken sink.new)) }
+    ensures part { OnErr result (IsPartWritten (report_of state.now) (K.taken sink.old)
+        (K.taken sink.new)) }
+    ensures cause { IfErr result (λ error. HasOutputCause error (K.faults sink.old)
+        (K.faults sink.new)) }
     ensures sound { OnOk result (K.faults sink.new ≡ K.faults sink.old) }
 {
     let mut waiting = Vec::new(alloc);
@@ -52,10 +56,13 @@ fn write_entries<K: Sink>(
     sink: &mut K,
 ) -> Result<(), SinkError>
     ensures ok { OnOk result
-        (IsSent (waiting.old.items ++ flat_map entry_line entries.now) waiting.new.items (K.taken sink.old) (K.taken sink.new)) }
+        (IsSent (waiting.old.items ++ flat_map entry_line entries.now)
+        waiting.new.items (K.taken sink.old) (K.taken sink.new)) }
     ensures part { OnErr result
-        (IsPartWritten (waiting.old.items ++ flat_map entry_line entries.now) (K.taken sink.old) (K.taken sink.new)) }
-    ensures cause { IfErr result (λ error. HasOutputCause error (K.faults sink.old) (K.faults sink.new)) }
+        (IsPartWritten (waiting.old.items ++ flat_map entry_line entries.now)
+        (K.taken sink.old) (K.taken sink.new)) }
+    ensures cause { IfErr result (λ error. HasOutputCause error (K.faults sink.old)
+        (K.faults sink.new)) }
     ensures sound { OnOk result (K.faults sink.new ≡ K.faults sink.old) }
 {
     for entry in entries {
@@ -67,10 +74,13 @@ fn write_entries<K: Sink>(
 /// Writes the line of a live record behind what waits.
 fn write_entry<K: Sink>(waiting: &mut Vec<u8>, entry: &Entry, sink: &mut K) -> Result<(), SinkError>
     ensures ok { OnOk result
-        (IsSent (waiting.old.items ++ entry_line entry.now) waiting.new.items (K.taken sink.old) (K.taken sink.new)) }
+        (IsSent (waiting.old.items ++ entry_line entry.now)
+        waiting.new.items (K.taken sink.old) (K.taken sink.new)) }
     ensures part { OnErr result
-        (IsPartWritten (waiting.old.items ++ entry_line entry.now) (K.taken sink.old) (K.taken sink.new)) }
-    ensures cause { IfErr result (λ error. HasOutputCause error (K.faults sink.old) (K.faults sink.new)) }
+        (IsPartWritten (waiting.old.items ++ entry_line entry.now)
+        (K.taken sink.old) (K.taken sink.new)) }
+    ensures cause { IfErr result (λ error. HasOutputCause error (K.faults sink.old)
+        (K.faults sink.new)) }
     ensures sound { OnOk result (K.faults sink.new ≡ K.faults sink.old) }
 {
     grown(push_entry(waiting, entry))?;
@@ -84,10 +94,13 @@ fn write_in_doubts<K: Sink>(
     sink: &mut K,
 ) -> Result<(), SinkError>
     ensures ok { OnOk result
-        (IsSent (waiting.old.items ++ flat_map in_doubt_lines transactions.now) waiting.new.items (K.taken sink.old) (K.taken sink.new)) }
+        (IsSent (waiting.old.items ++ flat_map in_doubt_lines transactions.now)
+        waiting.new.items (K.taken sink.old) (K.taken sink.new)) }
     ensures part { OnErr result
-        (IsPartWritten (waiting.old.items ++ flat_map in_doubt_lines transactions.now) (K.taken sink.old) (K.taken sink.new)) }
-    ensures cause { IfErr result (λ error. HasOutputCause error (K.faults sink.old) (K.faults sink.new)) }
+        (IsPartWritten (waiting.old.items ++ flat_map in_doubt_lines transactions.now)
+        (K.taken sink.old) (K.taken sink.new)) }
+    ensures cause { IfErr result (λ error. HasOutputCause error (K.faults sink.old)
+        (K.faults sink.new)) }
     ensures sound { OnOk result (K.faults sink.new ≡ K.faults sink.old) }
 {
     for transaction in transactions {
@@ -103,10 +116,13 @@ fn write_in_doubt<K: Sink>(
     sink: &mut K,
 ) -> Result<(), SinkError>
     ensures ok { OnOk result
-        (IsSent (waiting.old.items ++ in_doubt_lines transaction.now) waiting.new.items (K.taken sink.old) (K.taken sink.new)) }
+        (IsSent (waiting.old.items ++ in_doubt_lines transaction.now)
+        waiting.new.items (K.taken sink.old) (K.taken sink.new)) }
     ensures part { OnErr result
-        (IsPartWritten (waiting.old.items ++ in_doubt_lines transaction.now) (K.taken sink.old) (K.taken sink.new)) }
-    ensures cause { IfErr result (λ error. HasOutputCause error (K.faults sink.old) (K.faults sink.new)) }
+        (IsPartWritten (waiting.old.items ++ in_doubt_lines transaction.now)
+        (K.taken sink.old) (K.taken sink.new)) }
+    ensures cause { IfErr result (λ error. HasOutputCause error (K.faults sink.old)
+        (K.faults sink.new)) }
     ensures sound { OnOk result (K.faults sink.new ≡ K.faults sink.old) }
 {
     grown(push_in_doubt(waiting, transaction))?;
@@ -119,7 +135,8 @@ fn write_piece<K: Sink>(waiting: &mut Vec<u8>, sink: &mut K) -> Result<(), SinkE
         (IsSent waiting.old.items waiting.new.items (K.taken sink.old) (K.taken sink.new)) }
     ensures part { OnErr result
         (IsPartWritten waiting.old.items (K.taken sink.old) (K.taken sink.new)) }
-    ensures cause { IfErr result (λ error. HasOutputCause error (K.faults sink.old) (K.faults sink.new)) }
+    ensures cause { IfErr result (λ error. HasOutputCause error (K.faults sink.old)
+        (K.faults sink.new)) }
     ensures sound { OnOk result (K.faults sink.new ≡ K.faults sink.old) }
 {
     if waiting.len() < PIECE {

@@ -18,10 +18,13 @@ const NOT_BUILT: Status = Status::NotBuilt {
 
 /// Reads the source to its end, and the lines that it says.
 pub fn read_script<S: Source>(alloc: Global, source: &mut S) -> Result<Vec<Line>, Status>
-    ensures said { IfOk result (λ lines. IsSaid lines.items (S.left source.old) (S.left source.new)) }
+    ensures said { IfOk result (λ lines. IsSaid lines.items (S.left source.old)
+        (S.left source.new)) }
     ensures built { IfOk result (λ lines. All (λ line. IsTrue (is_built line)) lines.items) }
-    ensures cause { IfErr result (λ status. HasReadCause status (S.left source.old) (S.faults source.old) (S.faults source.new)) }
-    ensures count { IfErr result (λ status. HasSourceCount status (S.faults source.old) (S.faults source.new)) }
+    ensures cause { IfErr result (λ status. HasReadCause status (S.left source.old)
+        (S.faults source.old) (S.faults source.new)) }
+    ensures count { IfErr result (λ status. HasSourceCount status (S.faults source.old)
+        (S.faults source.new)) }
     ensures sound { OnOk result (S.faults source.new ≡ S.faults source.old) }
 {
     match read_whole(alloc, source) {

@@ -1,13 +1,14 @@
-use Rattle.std.proofs.Common.{◌≡◌, inl, [], false, refl, sym, subst, ◌∙◌, rules}
+use Rattle.std.proofs.Common.{◌≡◌, inl, inr, [], false, refl, sym, subst, ◌∙◌, rules}
 use Rattle.std.specs.Prelude.{IfErr}
 use Rattle.amq_model.proofs.Recovering.{nothing_new}
 use Rattle.amq_cli.specs.declared.status.Status.TheVariants.{NoMemory}
-use Rattle.amq_cli.specs.Offline.{IsLoadedState, IsEnding, is_past_script}
+use Rattle.amq_cli.specs.Offline.{IsLoadedState, IsEnding, IsOfOpened, IsOfRefusedOpening, is_past_script, lists_of}
 use Rattle.amq_cli.specs.Script.{HasReadCause}
 use Rattle.amq_model.proofs.Settling.{unchanged_are_syncs}
 use Rattle.amq_cli.proofs.Beginning.{nothing_begins, begins_still, print_begins}
 use Rattle.amq_cli.proofs.Outputs.{no_output, reading_ends, asking_ends, short_ends}
 use Rattle.amq_cli.proofs.Running.{nothing_owed}
+use Rattle.amq_cli.proofs.DataFileLemmas.{not_done}
 use Rattle.amq_cli.proofs.program.offline_with.Goals as goal
 use Rattle.amq_cli.proofs.program.offline_with.Goals.{in-Some-Replay, in-Some-Settle, in-None}
 
@@ -33,6 +34,7 @@ returns-in-Some-Print g c =
         output = search rules;
         script = search rules;
         print = search rules;
+        files = search rules;
         legal = search rules;
         rolled = search rules;
         words = search rules;
@@ -57,11 +59,13 @@ returns-in-Err g c =
     let past = g.D.Disk.past c.args.disk in
     let left = g.S.Source.left in
     let loaded = IsLoadedState past c.args.config.user_version c.new-in-Err.result.base c.new-in-Err.result.steps.items in
-    let ends : (is_past_script status ≡ false) × IsEnding status loaded faults faults [] [] [] =
+    let refused = IsOfRefusedOpening c.args.config (lists_of c.new-in-Err.result) past past faults faults in
+    let opened = IsOfOpened c.args.config (lists_of c.new-in-Err.result) in
+    let ends : (is_past_script status ≡ false) × IsEnding status loaded refused opened faults faults [] [] [] =
     elim c.match-task_of.branch [
-      | in-Some-Replay w ↦ reading_ends status loaded _ _ _ faults faults (subst (λ r. IfErr r (λ s. HasReadCause s (left c.args.source.now) (g.S.Source.faults c.args.source.now) (g.S.Source.faults w.read_script-lines.new.source))) (sym w.lines-is ∙ c.in-Err.is) w.read_script-lines.ensures.cause)
-      | in-Some-Settle w ↦ short_ends status loaded faults faults (subst (λ r. IfErr r (λ s. s ≡ NoMemory)) (sym w.lines-is ∙ c.in-Err.is) w.one_line-lines.ensures.memory)
-      | in-None w ↦ asking_ends status loaded faults faults (search rules)
+      | in-Some-Replay w ↦ reading_ends status loaded refused opened _ _ _ faults faults (refl, refl) (subst (λ r. IfErr r (λ s. HasReadCause s (left c.args.source.now) (g.S.Source.faults c.args.source.now) (g.S.Source.faults w.read_script-lines.new.source))) (sym w.lines-is ∙ c.in-Err.is) w.read_script-lines.ensures.cause)
+      | in-Some-Settle w ↦ short_ends status loaded refused opened faults faults (refl, refl) (subst (λ r. IfErr r (λ s. s ≡ NoMemory)) (sym w.lines-is ∙ c.in-Err.is) w.one_line-lines.ensures.memory)
+      | in-None w ↦ asking_ends status loaded refused opened faults faults (search rules)
     ] in
     record {
       outcome = record {
@@ -82,9 +86,10 @@ returns-in-Err g c =
         };
         run = search rules;
         run_unwritten = search rules;
-        output = λ opens. no_output _ c.args.config.buffer_timeout status loaded (left c.args.source.now) (left c.match-task_of.source) faults faults (g.K.Sink.faults c.args.sink.now) (g.K.Sink.taken c.args.sink.now) c.new-in-Err.result.steps.items c.new-in-Err.result.receipts.items (search rules) (refl, refl) ends.0 ends.1;
+        output = λ opens. no_output _ c.args.config.buffer_timeout status loaded refused opened (left c.args.source.now) (left c.match-task_of.source) faults faults (g.K.Sink.faults c.args.sink.now) (g.K.Sink.taken c.args.sink.now) c.new-in-Err.result.steps.items c.new-in-Err.result.receipts.items (search rules) (refl, refl) ends.0 ends.1;
         script = search rules;
         print = search rules;
+        files = λ opens. inr (not_done status ends.0, (begins_still past).0);
         legal = search rules;
         rolled = search rules;
         words = search rules;
@@ -121,6 +126,7 @@ returns-in-Ok g c = record {
     output = search rules;
     script = search rules;
     print = search rules;
+    files = search rules;
     legal = search rules;
     rolled = search rules;
     words = search rules;

@@ -1,4 +1,4 @@
-use Rattle.std.proofs.Common.{◌≡◌, ℕ, [], ◌∷◌, ◌++◌, Some, refl, sym, ap, subst, ◌∙◌}
+use Rattle.std.proofs.Common.{rules, ◌≡◌, ℕ, [], ◌∷◌, ◌++◌, Some, refl, sym, ap, subst, ◌∙◌}
 use Rattle.std.specs.Prelude.{if◌then◌else◌}
 use Rattle.amq_model.specs.Names.{same}
 use Rattle.amq_model.specs.declared.command.Command.{Command}
@@ -11,26 +11,58 @@ use Rattle.amq_cli.specs.Replay.{begun_number, with_number}
 use Rattle.amq_cli.specs.Playing.{IsPlaying, AreNumbersOf}
 use Rattle.amq_cli.proofs.Playing.{labels_behind}
 use Rattle.amq_cli.proofs.Answering.{not_begun, begins, with_each}
+use Rattle.amq_cli.specs.Offline.{lists_of}
+use Rattle.amq_cli.proofs.DataFileLemmas.{so_far_unfinished}
 use Rattle.amq_cli.proofs.replay.give_labelled.Goals as goal
 
-pub returns-then-not-is_begin-clause-played : goal.returns-then-not-is_begin-clause-played
-returns-then-not-is_begin-clause-played g c answered labelled was =
-    let label = c.args.label.now in
-    let sends = ap (λ n. Some (with_number n c.args.command)) (sym (labelled label) ∙ sym c.number.ensures) ∙ ap Some (sym c.with_number.ensures) in
-    with_each c.give.result _ (λ (answer : Answer). AreNumbersOf (number_in c.args.labels.now) (answered ++ (Labelled label c.args.command, Some answer) ∷ []))
-    (λ answer. labels_behind (number_in c.args.labels.now) (number_in c.args.labels.now) answered (Labelled label c.args.command, Some answer) labelled (λ other. not_begun label other c.args.command (Some answer) (number_in c.args.labels.now other) (sym c.is_begin.ensures ∙ c.if-not-is_begin.true)))
-    (c.give.ensures.played answered (Labelled label c.args.command) sends was)
+pub returns-then-not-is_begin : goal.returns-then-not-is_begin
+returns-then-not-is_begin g c = record {
+  answers = record {
+    played = λ answered labelled was. (let label = c.args.label.now in
+        let sends = ap (λ n. Some (with_number n c.args.command)) (sym (labelled label) ∙ sym c.number.ensures) ∙ ap Some (sym c.with_number.ensures) in
+        with_each c.give.result _ (λ (answer : Answer). AreNumbersOf (number_in c.args.labels.now) (answered ++ (Labelled label c.args.command, Some answer) ∷ []))
+        (λ answer. labels_behind (number_in c.args.labels.now) (number_in c.args.labels.now) answered (Labelled label c.args.command, Some answer) labelled (λ other. not_begun label other c.args.command (Some answer) (number_in c.args.labels.now other) (sym c.is_begin.ensures ∙ c.if-not-is_begin.true)))
+        (c.give.ensures.gives.played answered (Labelled label c.args.command) sends was));
+    kept = search rules;
+    next = search rules;
+    continues = search rules;
+  };
+}
 
-pub returns-clause-played : goal.returns-clause-played
-returns-clause-played g c answered labelled was =
-    let label = c.args.label.now in
-    let begin : c.args.command ≡ Begin = begins c.args.command (sym c.is_begin.ensures ∙ c.if-not-is_begin.false) in
-    let played = c.in_ok-answer.ensures.played answered (Labelled label Begin) refl was in
-    let old = number_in c.args.labels.now in
-    let new = number_in c.set.new.self in
-    let numbers = labels_behind old new answered (Labelled label Begin, Some c.in_ok-answer.answer) labelled
-    (λ other. c.set.ensures other ∙ ap (λ (n : ℕ). if same label other then n else number_in c.reserve.new.self other) c.begun_number.ensures ∙ ap (λ (n : ℕ). if same label other then begun_number (Some c.in_ok-answer.answer) else n) (c.reserve.ensures.same other)) in
-    subst (λ (command : Command). IsPlaying c.args.engine.now.config.buffer_timeout (answered ++ (Labelled label command, Some c.in_ok-answer.answer) ∷ []) c.give-2.new.number c.give-2.new.engine × AreNumbersOf new (answered ++ (Labelled label command, Some c.in_ok-answer.answer) ∷ [])) (sym begin) (played, numbers)
+pub returns-then-is_err : goal.returns-then-is_err
+returns-then-is_err g c = record {
+  answers = record {
+    played = search rules;
+    kept = search rules;
+    next = search rules;
+    continues = record {
+      last = search rules;
+      closes = search rules;
+      unclosed = search rules;
+      same = search rules;
+      cause = search rules;
+      later = search rules;
+      goes_on = goes_still (g.D.Disk.past c.args.engine.now.disk);
+      first = search rules;
+      stands = search rules;
+      files = λ done first was. (let e = c.args.engine.now in so_far_unfinished done e.config e.file e.end e.highest (lists_of e.chronicle) first (g.D.Disk.past e.disk) was);
+    };
+  };
+}
 
-pub returns-then-is_err-clause-goes_on : goal.returns-then-is_err-clause-goes_on
-returns-then-is_err-clause-goes_on g c = goes_still (g.D.Disk.past c.args.engine.now.disk)
+pub returns : goal.returns
+returns g c = record {
+  answers = record {
+    played = λ answered labelled was. (let label = c.args.label.now in
+        let begin : c.args.command ≡ Begin = begins c.args.command (sym c.is_begin.ensures ∙ c.if-not-is_begin.false) in
+        let played = c.in_ok-answer.ensures.gives.played answered (Labelled label Begin) refl was in
+        let old = number_in c.args.labels.now in
+        let new = number_in c.set.new.self in
+        let numbers = labels_behind old new answered (Labelled label Begin, Some c.in_ok-answer.answer) labelled
+        (λ other. c.set.ensures other ∙ ap (λ (n : ℕ). if same label other then n else number_in c.reserve.new.self other) c.begun_number.ensures ∙ ap (λ (n : ℕ). if same label other then begun_number (Some c.in_ok-answer.answer) else n) (c.reserve.ensures.same other)) in
+        subst (λ (command : Command). IsPlaying c.args.engine.now.config.buffer_timeout (answered ++ (Labelled label command, Some c.in_ok-answer.answer) ∷ []) c.give-2.new.number c.give-2.new.engine × AreNumbersOf new (answered ++ (Labelled label command, Some c.in_ok-answer.answer) ∷ [])) (sym begin) (played, numbers));
+    kept = search rules;
+    next = search rules;
+    continues = search rules;
+  };
+}

@@ -1,47 +1,83 @@
-use Rattle.std.proofs.Common.{[], ◌++◌, true, sym, ap, ◌∙◌, ◌<◌, ℕ, List, length, subst}
+use Rattle.std.proofs.Common.{rules, [], ◌++◌, sym, ap, ◌∙◌}
 use Rattle.std.proofs.lemmas.List.{append-nil}
 use Rattle.amq_model.specs.Texts.{refusal_line}
-use Rattle.amq_cli.specs.Replay.{is_for_memory}
+use Rattle.amq_engine.proofs.GoingOn.{goes_still}
 use Rattle.amq_cli.specs.Labelled.{number_in}
-use Rattle.amq_cli.specs.Outcomes.{answer_in}
-use Rattle.amq_cli.proofs.Ending.{line_played, line_unwritten, line_refused, refused_owed, unwritten_owed}
-use Rattle.amq_cli.specs.declared.replay.Outcome.{Outcome}
-use Rattle.amq_cli.proofs.Causes.{cause_short}
+use Rattle.amq_cli.specs.LineAnswers.{answer_in, text_in}
+use Rattle.amq_cli.specs.Offline.{lists_of}
+use Rattle.amq_cli.proofs.Ending.{line_played, line_refused, refused_owed, none_noted}
+use Rattle.amq_cli.proofs.DataFileLemmas.{so_far_unfinished}
 use Rattle.amq_cli.proofs.replay.play_line.Goals as goal
 
-pub returns-in-Ok-push_outcome-clause-played : goal.returns-in-Ok-push_outcome-clause-played
-returns-in-Ok-push_outcome-clause-played g c done was =
-    let before = c.args.text.now.items in
-    let after = c.push_outcome.new.text.items in
-    line_played c.args.engine.now.config.buffer_timeout done c.args.line (answer_in c.in-Ok.outcome) (number_in c.args.labels.now) (number_in c.answer_line.new.labels) c.args.number.now c.answer_line.new.number c.args.engine.now c.answer_line.new.engine before after was c.in-Ok.ensures.played
-    (c.in-Ok-push_outcome.ensures.ok ∙ ap (λ t. before ++ t) c.in-Ok.ensures.text)
+pub returns-then-is_err : goal.returns-then-is_err
+returns-then-is_err g c = record {
+  plays = record {
+    played = search rules;
+    ended = λ done was. (let e = c.args.engine.now in
+        let text = c.args.text.now.items in
+        line_refused e.config.buffer_timeout done c.args.line (number_in c.args.labels.now) c.args.number.now e e text c.reserve.new.self.items [] was (none_noted e.durable e.appended (lists_of e.chronicle))
+        (c.reserve.ensures.items ∙ sym (append-nil text)));
+    owed = λ done was. (let e = c.args.engine.now in
+        refused_owed e.config.buffer_timeout done c.args.line (number_in c.args.labels.now) c.args.number.now e e c.args.text.now.items was (none_noted e.durable e.appended (lists_of e.chronicle)));
+    next = search rules;
+    continues = record {
+      last = search rules;
+      closes = search rules;
+      unclosed = search rules;
+      same = search rules;
+      cause = search rules;
+      later = search rules;
+      goes_on = goes_still (g.D.Disk.past c.args.engine.now.disk);
+      first = search rules;
+      stands = search rules;
+      files = λ done first was. (let e = c.args.engine.now in so_far_unfinished done e.config e.file e.end e.highest (lists_of e.chronicle) first (g.D.Disk.past e.disk) was);
+    };
+  };
+}
 
-pub returns-in-Err-push_outcome-clause-ended : goal.returns-in-Err-push_outcome-clause-ended
-returns-in-Err-push_outcome-clause-ended g c done was =
-    let before = c.args.text.now.items in
-    let after = c.push_outcome.new.text.items in
-    line_unwritten c.args.engine.now.config.buffer_timeout done c.args.line (answer_in c.in-Ok.outcome) (number_in c.args.labels.now) (number_in c.answer_line.new.labels) c.args.number.now c.answer_line.new.number c.args.engine.now c.answer_line.new.engine before after was c.in-Ok.ensures.played c.in-Err-push_outcome.ensures.err
-    (subst (λ (t : List ℕ). 0 < length t) c.in-Ok.ensures.text c.in-Err-push_outcome.ensures.some)
+pub returns-in-Ok : goal.returns-in-Ok
+returns-in-Ok g c = record {
+  plays = record {
+    played = λ done was. (let before = c.args.text.now.items in
+        line_played c.args.engine.now.config.buffer_timeout done c.args.line (answer_in c.in-Ok.answer) (number_in c.args.labels.now) (number_in c.answer_line.new.labels) c.args.number.now c.answer_line.new.number c.args.engine.now c.answer_line.new.engine before c.push_line_answer.new.text.items was c.in-Ok.ensures.answers.played
+        (c.push_line_answer.ensures ∙ ap (λ t. t ++ text_in c.in-Ok.answer) c.reserve.ensures.items ∙ ap (λ t. before ++ t) c.in-Ok.ensures.text));
+    ended = search rules;
+    owed = search rules;
+    next = search rules;
+    continues = record {
+      last = search rules;
+      closes = search rules;
+      unclosed = search rules;
+      same = search rules;
+      cause = search rules;
+      later = search rules;
+      goes_on = search rules;
+      first = search rules;
+      stands = search rules;
+      files = λ done first was. c.in-Ok.ensures.answers.continues.files done first was;
+    };
+  };
+}
 
-pub returns-in-Err-push_outcome-clause-owed : goal.returns-in-Err-push_outcome-clause-owed
-returns-in-Err-push_outcome-clause-owed g c done was =
-    unwritten_owed c.args.engine.now.config.buffer_timeout done c.args.line (answer_in c.in-Ok.outcome) (number_in c.args.labels.now) (number_in c.answer_line.new.labels) c.args.number.now c.answer_line.new.number c.args.engine.now c.answer_line.new.engine c.args.text.now.items was c.answer_line.ensures.same.0 c.in-Ok.ensures.played
-
-pub returns-in-Ok-push_answer-clause-ended : goal.returns-in-Ok-push_answer-clause-ended
-returns-in-Ok-push_answer-clause-ended g c done was =
-    line_refused c.args.engine.now.config.buffer_timeout done c.args.line (number_in c.args.labels.now) c.args.number.now c.args.engine.now c.answer_line.new.engine c.args.text.now.items c.push_answer.new.out.items (refusal_line c.in-Err.refusal) (is_for_memory c.in-Err.refusal) was c.in-Err.ensures.kept c.in-Ok-push_answer.ensures.ok
-
-pub returns-in-Err-push_answer-clause-ended : goal.returns-in-Err-push_answer-clause-ended
-returns-in-Err-push_answer-clause-ended g c done was =
-    line_refused c.args.engine.now.config.buffer_timeout done c.args.line (number_in c.args.labels.now) c.args.number.now c.args.engine.now c.answer_line.new.engine c.args.text.now.items c.push_answer.new.out.items [] true was c.in-Err.ensures.kept (c.in-Err-push_answer.ensures.err ∙ sym (append-nil c.args.text.now.items))
-
-pub returns-in-Ok-push_answer-clause-owed : goal.returns-in-Ok-push_answer-clause-owed
-returns-in-Ok-push_answer-clause-owed g c done was =
-    refused_owed c.args.engine.now.config.buffer_timeout done c.args.line (number_in c.args.labels.now) c.args.number.now c.args.engine.now c.answer_line.new.engine c.args.text.now.items was c.in-Err.ensures.kept
-
-pub returns-in-Err-push_answer-clause-owed : goal.returns-in-Err-push_answer-clause-owed
-returns-in-Err-push_answer-clause-owed g c done was =
-    refused_owed c.args.engine.now.config.buffer_timeout done c.args.line (number_in c.args.labels.now) c.args.number.now c.args.engine.now c.answer_line.new.engine c.args.text.now.items was c.in-Err.ensures.kept
-
-pub returns-in-Err-push_answer-clause-cause : goal.returns-in-Err-push_answer-clause-cause
-returns-in-Err-push_answer-clause-cause g c = cause_short Outcome (Unit {0}) c.in-Err.refusal (g.D.Disk.faults c.args.engine.now.disk) (g.D.Disk.faults c.answer_line.new.engine.disk) c.in-Err.ensures.cause
+pub returns-in-Err : goal.returns-in-Err
+returns-in-Err g c = record {
+  plays = record {
+    played = search rules;
+    ended = λ done was. (line_refused c.args.engine.now.config.buffer_timeout done c.args.line (number_in c.args.labels.now) c.args.number.now c.args.engine.now c.answer_line.new.engine c.args.text.now.items c.push_line_answer-in-Err.new.text.items (refusal_line c.in-Err.refusal) was c.in-Err.ensures.answers.kept
+        (c.push_line_answer-in-Err.ensures ∙ ap (λ t. t ++ refusal_line c.in-Err.refusal) c.reserve.ensures.items));
+    owed = λ done was. (refused_owed c.args.engine.now.config.buffer_timeout done c.args.line (number_in c.args.labels.now) c.args.number.now c.args.engine.now c.answer_line.new.engine c.args.text.now.items was c.in-Err.ensures.answers.kept);
+    next = search rules;
+    continues = record {
+      last = search rules;
+      closes = search rules;
+      unclosed = search rules;
+      same = search rules;
+      cause = search rules;
+      later = search rules;
+      goes_on = search rules;
+      first = search rules;
+      stands = search rules;
+      files = λ done first was. c.in-Err.ensures.answers.continues.files done first was;
+    };
+  };
+}

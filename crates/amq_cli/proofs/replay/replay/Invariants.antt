@@ -1,4 +1,4 @@
-use Rattle.std.proofs.Common.{◌≡◌, ◌+◌, ◌≤◌, ◌++◌, List, length, None}
+use Rattle.std.proofs.Common.{◌≡◌, ◌+◌, ◌≤◌, ◌++◌, List, length, true, None}
 use Rattle.std.specs.Prelude.{All, IsTrue, reverse}
 use Rattle.amq_model.specs.declared.script.Line.{Line}
 use Rattle.amq_io.specs.Cause.{NoneFailed}
@@ -7,6 +7,7 @@ use Rattle.amq_cli.specs.Offline.{lists_of}
 use Rattle.amq_cli.specs.Replay.{is_built}
 use Rattle.amq_cli.specs.Labelled.{number_in}
 use Rattle.amq_cli.specs.Playing.{HasPlayed, KeepsFirst, StandsOn}
+use Rattle.amq_cli.specs.Replaying.{KeepsFiles}
 use Rattle.amq_cli.proofs.replay.replay.Given as goal
 
 -- what was answered, and what is left
@@ -23,6 +24,7 @@ invariant-loop-line g l =
       goes : GoesOn (g.D.Disk.past l.fn.engine.disk) (g.D.Disk.past l.engine.disk);
       first : KeepsFirst (lists_of l.fn.engine.chronicle) (lists_of l.engine.chronicle);
       stands : StandsOn l.fn.engine l.engine;
+      files : KeepsFiles g.D.Disk.past true l.fn.engine l.engine;
     }
 
 abbrev pub decreases-loop-line : goal.decreases-loop-line
