@@ -8,6 +8,8 @@ use Rattle.amq_model.proofs.Moments.{go_on}
 use Rattle.amq_model.specs.declared.config.Config.{Config}
 use Rattle.amq_model.specs.declared.record.Placed.{Placed}
 use Rattle.amq_model.specs.Calls.{Past}
+use Rattle.amq_model.proofs.Chain.{told_then}
+use Rattle.amq_loader.specs.Loads.{IsTidy}
 use Rattle.amq_engine.specs.Lists.{Lists}
 use Rattle.amq_engine.specs.DataFiles.{HasFilesMade, IsRenewed, SyncsAllBut, HasFilesOf, HasFilesSoFar}
 use Rattle.amq_engine.proofs.DataFiles.{told_two, told_chain}
@@ -52,6 +54,7 @@ files_unfinished done config history old new f = record {
   worked = record { last = f.worked.last; least = f.worked.least; within = f.worked.within; near = f.worked.near; all = λ is. absurd cc; works = f.worked.works };
   stands = f.stands;
   enough = λ is. absurd cc;
+  tidy = λ is. absurd cc;
   no_more = ⊎_elim (λ le. inl (last_or_one_more done f.most _ le)) (λ few. inr few) f.no_more;
 }
 
@@ -99,6 +102,7 @@ files_asked done config history old mid new f asks =
       };
       stands = f.stands;
       enough = f.enough;
+      tidy = λ is. told_then Unchanged Unchanged IsTidy IsTidy mid new (f.tidy is) (λ o s tidy same. subst IsTidy (sym same) tidy) asks;
       no_more = f.no_more;
     }
   where

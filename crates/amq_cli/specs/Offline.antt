@@ -25,7 +25,7 @@ use Rattle.amq_engine.specs.Engine.{IsBlank, AreAppended, AreSpentAtLast}
 use Rattle.amq_engine.specs.Owed.{AreOwedAtOpening}
 use Rattle.amq_engine.specs.Receipts.{BeginsBySyncs}
 use Rattle.amq_engine.specs.Opening.{AreFirstRollbacks, HasBase, HasNumbers, StandBehind, HasOpenCause}
-use Rattle.amq_engine.specs.DataFiles.{HasFilesOf}
+use Rattle.amq_engine.specs.DataFiles.{HasFilesOf, HasFailedFiles}
 use Rattle.amq_engine.specs.Lists.{Lists}
 use Rattle.amq_engine.specs.declared.chronicle.Kept.{Kept}
 use Rattle.amq_engine.specs.declared.chronicle.Receipted.{Receipted}
@@ -103,7 +103,7 @@ HasRunCause config lists (s.NotBuilt u.Directory) old new was now = OnlyAsks old
 HasRunCause config lists (s.FileIdsSpent highest) old new was now = HasOpenCause config (o.FileIdsSpent highest) (Some lists) old new was now
 HasRunCause config lists status old new was now = HasDiskCause status was now
 
--- What an opening leaves that was refused for this fault: the steps are the first of its rollbacks alone, each appended and each owed where it is durable; and without a receipt nothing is noted.
+-- What an opening leaves that was refused for this fault: the steps are the first of its rollbacks alone, each appended and each owed where it is durable; the files are as they were, or those of what it appended; and without a receipt nothing is noted.
 pub record IsOfRefusedOpening (config : Config) (l : Lists) (old new : Option Past) (was now : Faults) (fault : OpenFault) : Type 0 where
   pub cause : HasOpenCause config fault (Some l) old new was now
   pub legal : AreLegalOfRefused l.base l.steps config
@@ -114,6 +114,7 @@ pub record IsOfRefusedOpening (config : Config) (l : Lists) (old new : Option Pa
   pub unnoted : l.receipts ≡ [] → IsBlank l
   pub begins : BeginsBySyncs l.receipts old new
   pub owed : AreOwedAtOpening config l
+  pub files : HasFailedFiles config l old new
 
 -- the opening was refused, and the run has the status of that
 abbrev pub IsRefused : Status → Config → Lists → Option Past → Option Past → Faults → Faults → Type 0

@@ -1,18 +1,25 @@
 -- Data files by their ids and lengths, which of them are new, and which names calls may touch: what is so and what isn't.
-use Rattle.std.proofs.Common.{◌≡◌, inl, inr, ⊎_elim, ℕ, ◌+◌, ◌-◌, ◌^◌, ◌≤◌, Bool, true, false, cond, List, [], ◌∷◌, codes, Option, None, Some, refl, sym, ap, subst, ◌∙◌, arith}
+use Rattle.std.proofs.Common.{◌≡◌, ◌⊎◌, inl, inr, ⊎_elim, ℕ, ◌+◌, ◌-◌, ◌^◌, ◌<◌, ◌≤◌, Bool, true, false, cond, List, [], ◌∷◌, codes, length, Option, None, Some, refl, sym, ap, subst, ◌∙◌, arith}
 use Rattle.std.specs.Prelude.{IsSome, is_some}
 use Rattle.std.specs.FinMap as finite
 use Rattle.std.proofs.lemmas.Option.{same_Some, none-some}
 use Rattle.amq_model.specs.declared.config.Config.{Config}
 use Rattle.amq_model.specs.declared.record.Placed.{Placed}
 use Rattle.amq_model.specs.declared.record.Record.TheVariants.{Rollback}
+use Rattle.amq_model.specs.declared.record.Record.TheVariants as r
+use Rattle.amq_model.specs.declared.command.Command.TheVariants as c
+use Rattle.amq_model.specs.declared.command.Reply.TheVariants.{Appended}
+use Rattle.amq_model.specs.declared.history.Answer.TheVariants.{Done}
+use Rattle.amq_model.specs.declared.history.Step.{Step}
+use Rattle.amq_model.specs.Legal.{rolled_back}
 use Rattle.amq_model.specs.Names.{is_data, data_number}
 use Rattle.amq_model.specs.Files.{FileName, File, Files}
 use Rattle.amq_model.specs.Calls.{Past, content}
 use Rattle.amq_model.specs.Leaves.{Leaves, Syncs, IsSyncedFile}
 use Rattle.amq_header.specs.Classes.{data_name, temporary_name, temporary_number}
 use Rattle.amq_header.proofs.Made.{data_is_read, temporary_is_read, temporary_differ}
-use Rattle.amq_engine.specs.DataFiles.{id_and_length, data_file_at, HasSameFiles, HasFilesMade, HasId, IsNumbered, IsPreparing, IsUsedOrNew, IsRenewed, LeavesAllBut, SyncsAllBut, WorkedTo, HasFilesOf, HasFilesSoFar, HasFailedFiles, file_of_last}
+use Rattle.amq_engine.specs.Lists.{Lists}
+use Rattle.amq_engine.specs.DataFiles.{id_and_length, data_file_at, HasSameFiles, HasFilesMade, HasId, IsNumbered, IsPreparing, IsUsedOrNew, IsRenewed, LeavesAllBut, SyncsAllBut, WorkedTo, HasFilesOf, HasFilesSoFar, HasBegunFiles, HasFailedFiles, file_of_last}
 use Rattle.amq_engine.proofs.DataFiles.{same_made}
 use Rattle.amq_engine.proofs.Standing.{temporary_apart}
 
@@ -134,6 +141,7 @@ files_untold config few = record {
   worked = record { last = 1; least = omega arith; within = omega arith; near = omega arith; all = λ is. refl; works = record { keeps = refl; files = tt } };
   stands = omega arith;
   enough = λ is. inl (omega (arith, few));
+  tidy = λ is. tt;
   no_more = inl (omega arith);
 }
 
@@ -150,12 +158,64 @@ pub no_second_file_too_many : (config : Config) (a b : Option Past) (h : HasFile
 no_second_file_too_many config a b h few is = ⊎_elim (λ (le : h.most ≤ 5). omega (arith, le, is)) (λ (le : h.files + (h.most - h.before) ≤ config.min_files). omega (arith, le, few, is, h.begun)) h.no_more
 
 -- an opening that failed at once
-pub nothing_was_done : (config : Config) (old : Option Past) → Leaves Syncs Syncs old old → HasFailedFiles config [] old old
-nothing_was_done config old same = inl same
+pub nothing_was_done : (config : Config) (l : Lists) (old : Option Past) → Leaves Syncs Syncs old old → HasFailedFiles config l old old
+nothing_was_done config l old same = inl same
+
+-- The base has an open transaction, in file 1. So much was done: nothing, or its rollback was appended, in file 2.
+abbrev left_open : List Placed
+left_open = record { file = 1; place = 16; compact = 0; rec = r.AddTx 1 3 7 [] } ∷ []
+
+abbrev rolls_back : Step
+rolls_back = record { seat = 0; number = 1; command = c.Rollback 1; answer = Done (Appended 0); placed = Some (append_in 2) }
+
+abbrev opened_with : List Step → ℕ → Lists
+opened_with steps durable = record { base = left_open; steps = steps; receipts = record { durable = durable; moment = 9; steps = length steps } ∷ [] }
+
+-- at least nine files are asked for; one was there, of number 1, and the disk tells nothing of them
+abbrev nine_files : Config
+nine_files = record { file_size = 1024; min_files = 9; pool_files = None; compact_min_files = 10; compact_percentage = 30; buffer_size = 64; buffer_timeout = 3; user_version = 0 }
+
+untold_up_to : (most : ℕ) (history : List Placed) → file_of_last 1 history ≤ most → 1 < most → most ≤ 9 → HasFilesOf false nine_files history None None
+untold_up_to most history stands above below = record {
+  files = 1;
+  before = 1;
+  had = tt;
+  most = most;
+  limit = omega (arith, below);
+  begun = above;
+  worked = record { last = most; least = omega (arith, above); within = omega arith; near = omega arith; all = λ is. refl; works = record { keeps = refl; files = tt } };
+  stands = stands;
+  enough = λ is. absurd cc;
+  tidy = λ is. tt;
+  no_more = inr (omega (arith, above, below));
+}
+
+-- once the rollback is counted as durable, further files are asked for
+pub filled_behind_the_flush : HasBegunFiles nine_files (opened_with (rolls_back ∷ []) 1) None None
+filled_behind_the_flush = record {
+  files = untold_up_to 5 (append_in 2 ∷ []) (omega arith) (omega arith) (omega arith);
+  flushed = inr (inr (refl, refl));
+}
+
+-- and not before
+pub none_filled_before_the_flush : (a b : Option Past) (h : HasBegunFiles nine_files (opened_with (rolls_back ∷ []) 0) a b) → h.files.most ≡ 3 → ⊥
+none_filled_before_the_flush a b h is = by h.flushed where
+  by : ((length {A = Step} (rolls_back ∷ []) < length (rolled_back left_open)) × (h.files.most ≤ 2 + 1)) ⊎ (h.files.most ≤ 2) ⊎ ((length {A = Step} (rolls_back ∷ []) ≡ length (rolled_back left_open)) × (◌≡◌ {A = ℕ} 0 1)) → ⊥
+  by (inl (few, near)) = omega (arith, few)
+  by (inr (inl low)) = omega (arith, low, is)
+  by (inr (inr (all, counts))) = omega (arith, counts)
+
+-- nor before the rollback is appended, but for the file that it may need
+pub none_filled_before_the_rollback : (a b : Option Past) (h : HasBegunFiles nine_files (opened_with [] 0) a b) → h.files.before ≡ 1 → h.files.most ≡ 4 → ⊥
+none_filled_before_the_rollback a b h first is = by h.flushed where
+  by : ((length {A = Step} [] < length (rolled_back left_open)) × (h.files.most ≤ h.files.before + 1 + 1)) ⊎ (h.files.most ≤ h.files.before + 1) ⊎ ((length {A = Step} [] ≡ length (rolled_back left_open)) × (◌≡◌ {A = ℕ} 0 0)) → ⊥
+  by (inl (few, near)) = omega (arith, near, first, is)
+  by (inr (inl low)) = omega (arith, low, first, is)
+  by (inr (inr (all, counts))) = let none : ◌≡◌ {A = ℕ} 0 1 = all in omega (arith, none)
 
 -- a file of another name is never lost
-pub no_other_file_is_lost : (config : Config) (history : List Placed) (p q : Past) (f : File) → finite.get (content p.start p.calls) (codes "notes.txt") ≡ Some f → finite.get (content q.start q.calls) (codes "notes.txt") ≡ None → HasFailedFiles config history (Some p) (Some q) → ⊥
-no_other_file_is_lost config history p q f had none failed = by failed where
+pub no_other_file_is_lost : (config : Config) (l : Lists) (p q : Past) (f : File) → finite.get (content p.start p.calls) (codes "notes.txt") ≡ Some f → finite.get (content q.start q.calls) (codes "notes.txt") ≡ None → HasFailedFiles config l (Some p) (Some q) → ⊥
+no_other_file_is_lost config l p q f had none failed = by failed where
   lost : (o s : Option File) → o ≡ Some f → s ≡ None → IsSyncedFile o s → ⊥
   lost None s had none same = none-some f had
   lost (Some o) None had none same = same
@@ -164,11 +224,16 @@ no_other_file_is_lost config history p q f had none failed = by failed where
   now : (r : Past) → Some q ≡ Some r → finite.get (content r.start r.calls) (codes "notes.txt") ≡ None
   now r e = subst (λ (x : Past). finite.get (content x.start x.calls) (codes "notes.txt") ≡ None) (same_Some q r e) none
 
-  by : HasFailedFiles config history (Some p) (Some q) → ⊥
+  by : HasFailedFiles config l (Some p) (Some q) → ⊥
   by (inl went) = lost (finite.get (content p.start p.calls) (codes "notes.txt")) (finite.get (content went.0.start went.0.calls) (codes "notes.txt")) had (now went.0 went.1) (went.2.told (codes "notes.txt"))
-  by (inr h) =
+  by (inr begun) =
+      let h = begun.files in
       let went = h.worked.works.keeps in
       lost (finite.get (content p.start p.calls) (codes "notes.txt")) (finite.get (content went.0.start went.0.calls) (codes "notes.txt")) had (now went.0 went.1) (went.2.told (codes "notes.txt") (notes_stay (Some p) h.before h.most h.limit))
+
+-- where all was done no file stays that was being prepared
+pub no_leftover_stays : (config : Config) (history : List Placed) (a : Option Past) (q : Past) (f : File) → finite.get (content q.start q.calls) (codes "activemq-data-9.amq.tmp") ≡ Some f → HasFilesOf true config history a (Some q) → ⊥
+no_leftover_stays config history a q f there h = none-some f (sym (h.tidy refl (codes "activemq-data-9.amq.tmp") refl) ∙ there)
 
 -- a journal that has appended nothing so far
 pub so_far_untold : (config : Config) → config.min_files ≤ 1 → HasFilesSoFar true config 1 16 1 (record { base = []; steps = []; receipts = [] }) None None
@@ -183,6 +248,7 @@ so_far_untold config few = record {
     worked = record { last = 1; least = omega arith; within = omega arith; near = omega arith; all = λ is. refl; works = record { keeps = refl; files = tt } };
     stands = omega arith;
     enough = λ is. inl (omega (arith, few));
+    tidy = λ is. tt;
     no_more = inl (omega arith);
   };
   reached = omega arith;

@@ -21,7 +21,7 @@ use Rattle.amq_model.specs.Leaves.{Leaves, Told, IsSyncedFile, SparesAllBut}
 use Rattle.amq_model.proofs.Moments.{go_on}
 use Rattle.amq_header.specs.Classes.{data_name}
 use Rattle.amq_header.proofs.Made.{data_differ}
-use Rattle.amq_loader.specs.Loads.{number_of}
+use Rattle.amq_loader.specs.Loads.{number_of, IsTidy}
 use Rattle.amq_scan.proofs.Parts.{Has}
 use Rattle.amq_scan.proofs.Entries.{Entry, there_entry, has_file}
 use Rattle.amq_tx.specs.State.{TxState}
@@ -39,6 +39,7 @@ use Rattle.amq_engine.proofs.Listing.{used_id}
 use Rattle.amq_engine.proofs.Noting.{both_true}
 use Rattle.amq_engine.proofs.OpenedFiles.{last_from, opened_has}
 use Rattle.amq_engine.proofs.FilesTold.{sound_used}
+use Rattle.amq_engine.proofs.Tidying.{told_spared}
 use Rattle.amq_engine.proofs.Places.{rollbacks_stand}
 use Rattle.amq_engine.proofs.Standing.{same_or_not}
 
@@ -188,9 +189,9 @@ reached_by false h h' most last made unmade all least = omega (arith, unmade ref
 -- what a call adds, which went on to that file, or prepared one
 pub so_far_more : (done d : Bool) (config : Config) (file end h file' end' h' most : ℕ) (l l' : Lists) (old a b : Option Past) (used : FileName) → HasFilesSoFar done config file end h l old a → Told a (λ s. HasId file s used)
     → (two : Worked d (SparesAllBut (IsUsedOrNew used (h + 1) most)) config.file_size h most a b) → file ≤ h → most ≤ h + 1 → most ≤ 2 ^ 31 - 1 → h ≤ h' → (d ≡ true → most ≡ h') → (d ≡ false → h' ≡ h) → file ≤ file' → file' ≤ h'
-    → (most ≤ h) ⊎ (h + 1 ≤ cond d file' (file' + 1)) → ((first : ℕ) → StandsFrom config first file end l → StandsFrom config first file' end' l') → HasFilesSoFar (done && d) config file' end' h' l' old b
+    → (most ≤ h) ⊎ (h + 1 ≤ cond d file' (file' + 1)) → (d ≡ true → Told a IsTidy → Told b IsTidy) → ((first : ℕ) → StandsFrom config first file end l → StandsFrom config first file' end' l') → HasFilesSoFar (done && d) config file' end' h' l' old b
 unfolding worked_more
-so_far_more done d config file end h file' end' h' most l l' old a b used f has two within next low up made unmade later within' needs stand =
+so_far_more done d config file end h file' end' h' most l l' old a b used f has two within next low up made unmade later within' needs tidy stand =
     let F = f.files in
     let reached : h' ≤ two.last = reached_by d h h' most two.last made unmade two.all two.least in
     let top = max F.most most in
@@ -217,6 +218,7 @@ so_far_more done d config file end h file' end' h' most l l' old a b used f has 
       worked = more;
       stands = omega (arith, last_from F.before (F.before + 1) (history_of l'.steps) (omega arith), stands.1.0, within', reached);
       enough = λ is. ⊎_elim (λ (le : config.min_files ≤ F.files + (F.most - F.before)). inl (omega (arith, le))) (λ (e : F.most ≡ 2 ^ 31 - 1). inr (omega (arith, e, limit))) (F.enough (both_true done d is).0);
+      tidy = λ is. (let both = both_true done d is in tidy both.1 (F.tidy both.0));
       no_more = few;
     } in
     record {
@@ -299,23 +301,23 @@ module _ (done : Bool) (first past : Option Past) (lists : Option Lists) (room :
 
   -- which went on to that file, or prepared one
   pub so_far_call : (d : Bool) (past' : Option Past) (file' end' h' most : ℕ) → Worked d (SparesAllBut (IsUsedOrNew t.file.name (pool.highest + 1) most)) pool.config.file_size pool.highest most past past' → most ≤ pool.highest + 1 → most ≤ 2 ^ 31 - 1 → pool.highest ≤ h' → (d ≡ true → most ≡ h') → (d ≡ false → h' ≡ pool.highest) → t.file.id ≤ file' → file' ≤ h'
-      → (most ≤ pool.highest) ⊎ (pool.highest + 1 ≤ cond d file' (file' + 1)) → ((first : ℕ) → IfSome lists (StandsFrom config first t.file.id end) → IfSome lists' (StandsFrom config first file' end')) → IfSome lists So → IfSome lists' (λ l. HasFilesSoFar (done && d) config file' end' h' l first past')
-  so_far_call d past' file' end' h' most work next low up made unmade later within needs stands is =
+      → (most ≤ pool.highest) ⊎ (pool.highest + 1 ≤ cond d file' (file' + 1)) → (d ≡ true → Told past IsTidy → Told past' IsTidy) → ((first : ℕ) → IfSome lists (StandsFrom config first t.file.id end) → IfSome lists' (StandsFrom config first file' end')) → IfSome lists So → IfSome lists' (λ l. HasFilesSoFar (done && d) config file' end' h' l first past')
+  so_far_call d past' file' end' h' most work next low up made unmade later within needs tidy stands is =
       let K : Files → Files → Type 0 = SparesAllBut (IsUsedOrNew t.file.name (pool.highest + 1) most) in
       let two : Worked d K config.file_size pool.highest most past past' = subst (λ (k : Config). Worked d K k.file_size pool.highest most past past') sound.parts.same_config work in
       so_far_lists So (λ l. HasFilesSoFar (done && d) config file' end' h' l first past') config t.file.id end file' end' lists lists' gone stands
-      (λ l l' stand f. so_far_more done d config t.file.id end pool.highest file' end' h' most l l' first past past' t.file.name f (sound_used past lists room config table pool t ranges sound) two (used_within config table pool t sound.parts) next low up made unmade later within needs stand) is
+      (λ l l' stand f. so_far_more done d config t.file.id end pool.highest file' end' h' most l l' first past past' t.file.name f (sound_used past lists room config table pool t ranges sound) two (used_within config table pool t sound.parts) next low up made unmade later within needs tidy stand) is
 
   -- which called nothing
   pub so_far_still : (d : Bool) → ((first : ℕ) → IfSome lists (StandsFrom config first t.file.id end) → IfSome lists' (StandsFrom config first t.file.id end)) → IfSome lists So → IfSome lists' (λ l. HasFilesSoFar (done && d) config t.file.id end pool.highest l first past)
   so_far_still d stands is =
-      so_far_call d past t.file.id end pool.highest pool.highest (still_worked d t.file.name pool.config.file_size pool.highest past) (omega arith) sound.parts.numbers (omega arith) (λ e. refl) (λ e. refl) (omega arith) (used_within config table pool t sound.parts) (inl (omega arith)) stands is
+      so_far_call d past t.file.id end pool.highest pool.highest (still_worked d t.file.name pool.config.file_size pool.highest past) (omega arith) sound.parts.numbers (omega arith) (λ e. refl) (λ e. refl) (omega arith) (used_within config table pool t sound.parts) (inl (omega arith)) (λ d tidy. tidy) stands is
 
   -- which may have written what waited
   pub so_far_wrote : (past' : Option Past) (file' end' : ℕ) → Works (SparesAllBut (λ n. n ≡ t.file.name)) pool.config.file_size pool.highest pool.highest past past' → file' ≡ t.file.id → ((first : ℕ) → IfSome lists (StandsFrom config first t.file.id end) → IfSome lists' (StandsFrom config first file' end')) → IfSome lists So → IfSome lists' (λ l. HasFilesSoFar done config file' end' pool.highest l first past')
   so_far_wrote past' file' end' wrote same stands is =
       subst (λ (d : Bool). IfSome lists' (λ l. HasFilesSoFar d config file' end' pool.highest l first past')) (and_true done)
-      (so_far_call true past' file' end' pool.highest pool.highest (wrote_only t.file.name pool.config.file_size pool.highest past past' past' wrote true) (omega arith) sound.parts.numbers (omega arith) (λ e. refl) (λ e. refl) (omega (arith, same)) (omega (arith, same, used_within config table pool t sound.parts)) (inl (omega arith)) stands is)
+      (so_far_call true past' file' end' pool.highest pool.highest (wrote_only t.file.name pool.config.file_size pool.highest past past' past' wrote true) (omega arith) sound.parts.numbers (omega arith) (λ e. refl) (λ e. refl) (omega (arith, same)) (omega (arith, same, used_within config table pool t sound.parts)) (inl (omega arith)) (λ d tidy. told_spared t.file.name t.file.id past past' (sound_used past lists room config table pool t ranges sound) wrote.keeps tidy) stands is)
     where
       and_true : (b : Bool) → (b && true) ≡ b
       and_true true = refl
@@ -325,11 +327,11 @@ module _ (done : Bool) (first past : Option Past) (lists : Option Lists) (room :
 
 -- which is whole
 pub opened_so_far : (config : Config) (files before first file end highest n : ℕ) (txs : List ℕ) (l : Lists) (a b c : Option Past) → first ≡ before + 1 → Told a (HasNumbers files before) → Works (SyncsAllBut (IsRenewed a before (before + 1))) config.file_size before (before + 1) a b → WorkedTo true config.file_size (before + 1) (before + 1) highest b c → first ≤ file
-    → highest ≡ file + n → n ≡ min (config.min_files - (files + (file + 1 - first))) (2 ^ 31 - 1 - file) → (config.min_files ≤ files + (highest - before)) ⊎ (highest ≡ 2 ^ 31 - 1) → history_of l.steps ≡ rollbacks_behind config first 16 txs → EndsIn first (history_of l.steps) file end → HasFilesSoFar true config file end highest l a c
-opened_so_far config files before first file end highest n txs l a b c at had begun w later up many enough placed ends =
+    → highest ≡ file + n → n ≡ min (config.min_files - (files + (file + 1 - first))) (2 ^ 31 - 1 - file) → (config.min_files ≤ files + (highest - before)) ⊎ (highest ≡ 2 ^ 31 - 1) → history_of l.steps ≡ rollbacks_behind config first 16 txs → EndsIn first (history_of l.steps) file end → Told c IsTidy → HasFilesSoFar true config file end highest l a c
+opened_so_far config files before first file end highest n txs l a b c at had begun w later up many enough placed ends tidy =
     let history = history_of l.steps in
     let is : file ≡ file_of_last (before + 1) history = ends.0 ∙ ap (λ (k : ℕ). file_of_last k history) at in
-    let so = opened_has true config history files before highest a b c had begun w (omega (arith, is, up)) (λ d. enough) (needed (ltb 0 n) refl is) in
+    let so = opened_has true config history files before highest a b c had begun w (omega (arith, is, up)) (λ d. enough) (needed (ltb 0 n) refl is) (λ d. tidy) in
     record {
       files = so.0;
       reached = so.1;

@@ -8,19 +8,23 @@ use Rattle.std.proofs.lemmas.List.Elements.{All-contains}
 use Rattle.std.specs.FinMap as finite
 use Rattle.amq_model.specs.declared.config.Config.{Config}
 use Rattle.amq_model.specs.declared.record.Placed.{Placed}
+use Rattle.amq_model.specs.declared.history.Step.{Step}
+use Rattle.amq_model.specs.Answers.{history_of}
+use Rattle.amq_model.specs.Legal.{rolled_back}
 use Rattle.amq_model.specs.Names.{is_data}
 use Rattle.amq_model.specs.Files.{FileName, File, Files}
 use Rattle.amq_model.specs.Calls.{Past, content}
 use Rattle.amq_model.specs.Leaves.{Leaves, Told, IsThere, Syncs, IsSyncedFile, SparesAllBut}
 use Rattle.amq_model.proofs.Chain.{loosely}
 use Rattle.amq_header.specs.Classes.{data_name}
-use Rattle.amq_loader.specs.Loads.{is_leftover}
+use Rattle.amq_loader.specs.Loads.{is_leftover, IsTidy}
 use Rattle.amq_loader.specs.Bases.{Clears}
 use Rattle.amq_pool.specs.Pools.{PoolOf, numbered_file}
 use Rattle.amq_engine.specs.declared.tail.Tail.{Tail}
+use Rattle.amq_engine.specs.Lists.{Lists}
 use Rattle.amq_engine.specs.Engine.{readied, pool_readied}
 use Rattle.amq_engine.specs.Opening.{AreLeft, HasNumbers}
-use Rattle.amq_engine.specs.DataFiles.{id_and_length, HasFilesMade, IsPreparing, IsUsedOrNew, IsRenewed, SyncsAllBut, Works, Worked, WorkedTo, HasFilesOf, file_of_last}
+use Rattle.amq_engine.specs.DataFiles.{id_and_length, HasFilesMade, IsPreparing, IsUsedOrNew, IsRenewed, SyncsAllBut, Works, Worked, WorkedTo, HasFilesOf, HasBegunFiles, FailedFlushed, file_of_last}
 use Rattle.amq_engine.proofs.DataFiles.{files_by, same_made, told_two, worked_works, works_worked, worked_wider, worked_then, unworked, spares_wider, spares_then, preparing_from, to_then, info_by}
 
 -- ---- the rollbacks
@@ -189,8 +193,8 @@ last_from first other (p ∷ history) le = omega arith
 -- which data files there are behind an opening, whole or not
 pub opened_has : (done : Bool) (config : Config) (history : List Placed) (files before reached : ℕ) (a b c : Option Past) → Told a (HasNumbers files before) → Works (SyncsAllBut (IsRenewed a before (before + 1))) config.file_size before (before + 1) a b → (w : WorkedTo done config.file_size (before + 1) (before + 1) reached b c)
     → file_of_last (before + 1) history ≤ reached → (done ≡ true → (config.min_files ≤ files + (reached - before)) ⊎ (reached ≡ 2 ^ 31 - 1)) → (reached ≡ file_of_last (before + 1) history) ⊎ (files + (w.most - before) ≤ config.min_files)
-    → (f : HasFilesOf done config history a c) × (reached ≤ f.worked.last) × (f.most ≡ w.most) × (f.before ≡ before)
-opened_has done config history files before reached a b c had begun w stands enough no_more =
+    → (done ≡ true → Told c IsTidy) → (f : HasFilesOf done config history a c) × (reached ≤ f.worked.last) × (f.most ≡ w.most) × (f.before ≡ before)
+opened_has done config history files before reached a b c had begun w stands enough no_more tidy =
     let further = renewed_further done config.file_size before reached a b c w begun in
     let least : reached ≤ further.last = further_least done config.file_size before reached a b c w begun in
     let files_are : HasFilesOf done config history a c = record {
@@ -203,6 +207,7 @@ opened_has done config history files before reached a b c had begun w stands eno
       worked = further;
       stands = omega (arith, last_from before (before + 1) history (omega arith), stands, least);
       enough = λ is. subst (λ (n : ℕ). (config.min_files ≤ files + (n - before)) ⊎ (n ≡ 2 ^ 31 - 1)) (sym (w.all is)) (enough is);
+      tidy = tidy;
       no_more = ⊎_elim (λ (e : reached ≡ file_of_last (before + 1) history). inl (needed done (file_of_last (before + 1) history) e w.all)) (λ few. inr few) no_more;
     } in
     (files_are, least, refl, refl)
@@ -212,35 +217,76 @@ opened_has done config history files before reached a b c had begun w stands eno
     needed false last e all = omega (arith, w.next, e)
 
 -- the new file wasn't begun, or it may be
-pub unbegun_has : (config : Config) (files before : ℕ) (a c : Option Past) → before < 2 ^ 31 - 1 → Told a (HasNumbers files before) → Worked false (SyncsAllBut (IsRenewed a before (before + 1))) config.file_size before (before + 1) a c → HasFilesOf false config [] a c
-unbegun_has config files before a c low had w = record {
-  files = files;
-  before = before;
-  had = had;
-  most = before + 1;
-  limit = omega (arith, low);
-  begun = omega arith;
-  worked = w;
-  stands = w.least;
-  enough = λ is. absurd (no is);
-  no_more = inl (omega arith);
+pub unbegun_has : (config : Config) (files before : ℕ) (l : Lists) (a c : Option Past) → l.steps ≡ [] → before < 2 ^ 31 - 1 → Told a (HasNumbers files before) → Worked false (SyncsAllBut (IsRenewed a before (before + 1))) config.file_size before (before + 1) a c → HasBegunFiles config l a c
+unbegun_has config files before l a c none low had w = record {
+  files = record {
+    files = files;
+    before = before;
+    had = had;
+    most = before + 1;
+    limit = omega (arith, low);
+    begun = omega arith;
+    worked = w;
+    stands = omega (arith, w.least, last before);
+    enough = λ is. absurd (no is);
+    tidy = λ is. absurd (no is);
+    no_more = inl (omega (arith, last (before + 1)));
+  };
+  flushed = inr (inl (omega (arith, last (before + 1))));
 }
   where
     no : false ≡ true → ⊥
     no e = cc
 
--- an opening that failed behind the first file
-pub failed_has : (config : Config) (history : List Placed) (files before first reached : ℕ) (a b c : Option Past) → first ≡ before + 1 → Told a (HasNumbers files before) → Works (SyncsAllBut (IsRenewed a before (before + 1))) config.file_size before (before + 1) a b → WorkedTo false config.file_size (before + 1) (before + 1) reached b c
-    → (reached ≡ file_of_last first history) ⊎ ((file_of_last first history ≤ reached) × (files + (reached + 2 - first) ≤ config.min_files)) → HasFilesOf false config history a c
-failed_has config history files before first reached a b c at had begun w most =
-    let is : file_of_last first history ≡ file_of_last (before + 1) history = ap (λ (n : ℕ). file_of_last n history) at in
-    (opened_has false config history files before reached a b c had begun w
-    (⊎_elim (λ (e : reached ≡ file_of_last first history). omega (arith, e, is)) (λ few. omega (arith, few.0, is)) most)
-    (λ d. absurd (no d))
-    (⊎_elim (λ (e : reached ≡ file_of_last first history). inl (e ∙ is)) (λ few. inr (omega (arith, few.1, at, w.next))) most)).0
+    last : (first : ℕ) → file_of_last first (history_of l.steps) ≡ first
+    last first = ap (λ (steps : List Step). file_of_last first (history_of steps)) none
+
+-- what is whole is so too where not all was done
+to_unfinished : (size from first reached : ℕ) (b c : Option Past) → WorkedTo true size from first reached b c → (w : WorkedTo false size from first reached b c) × (w.most ≡ reached)
+to_unfinished size from first reached b c w = (
+  record {
+    most = w.most;
+    limit = w.limit;
+    all = λ is. absurd (no is);
+    next = w.next;
+    worked = record { last = w.worked.last; least = w.worked.least; within = w.worked.within; near = w.worked.near; all = λ is. absurd (no is); works = w.worked.works };
+    least = w.least;
+  },
+  w.all refl,
+)
   where
     no : false ≡ true → ⊥
     no e = cc
+
+-- an opening that failed behind the first file
+module _ (config : Config) (l : Lists) (files before reached : ℕ) (txs : List ℕ) (a b c : Option Past) (had : Told a (HasNumbers files before)) (begun : Works (SyncsAllBut (IsRenewed a before (before + 1))) config.file_size before (before + 1) a b)
+    (most : (reached ≡ file_of_last (before + 1) (history_of l.steps)) ⊎ ((file_of_last (before + 1) (history_of l.steps) ≤ reached) × (files + (reached + 2 - (before + 1)) ≤ config.min_files))) where
+  abbrev last : ℕ → ℕ
+  last first = file_of_last first (history_of l.steps)
+
+  has : (w : WorkedTo false config.file_size (before + 1) (before + 1) reached b c) → (f : HasFilesOf false config (history_of l.steps) a c) × (reached ≤ f.worked.last) × (f.most ≡ w.most) × (f.before ≡ before)
+  has w = opened_has false config (history_of l.steps) files before reached a b c had begun w
+      (⊎_elim (λ (e : reached ≡ last (before + 1)). omega (arith, e)) (λ few. few.0) most)
+      (λ d. absurd (no d))
+      (⊎_elim (λ (e : reached ≡ last (before + 1)). inl e) (λ few. inr (omega (arith, few.1, w.next))) most)
+      (λ d. absurd (no d))
+    where
+      no : false ≡ true → ⊥
+      no e = cc
+
+  -- behind the file of the last append it asked for none that it may not have
+  pub failed_has : txs ≡ rolled_back l.base → WorkedTo false config.file_size (before + 1) (before + 1) reached b c → FailedFlushed config (before + 1) reached txs b c l → HasBegunFiles config l a c
+  failed_has same w (inl (few, at)) =
+      let so = has w in
+      record {
+        files = so.0;
+        flushed = inl (subst (λ (n : ℕ). length l.steps < n) (ap length same) few, omega (arith, so.2, w.next, at, ap last (ap (λ (n : ℕ). n + 1) so.3)));
+      }
+  failed_has same w (inr (inl (at, done))) =
+      let all = to_unfinished config.file_size (before + 1) (before + 1) reached b c done in
+      let so = has all.0 in
+      record { files = so.0; flushed = inr (inl (omega (arith, so.2, all.1, at, ap last (ap (λ (n : ℕ). n + 1) so.3)))) }
+  failed_has same w (inr (inr (all, counts))) = record { files = (has w).0; flushed = inr (inr (all ∙ ap length same, counts)) }
 
 -- there are as many as are asked for, or the numbers are spent
 pub enough_by : (config : Config) (files before first file highest n : ℕ) → first ≡ before + 1 → first ≤ file → highest ≤ 2 ^ 31 - 1 → n ≡ min (config.min_files - (files + (file + 1 - first))) (2 ^ 31 - 1 - file) → highest ≡ file + n

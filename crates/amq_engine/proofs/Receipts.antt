@@ -15,6 +15,11 @@ pub if_some : {A : Type 0} (P Q : A → Type 0) (o : Option A) → ((x : A) → 
 if_some P Q None f h = tt
 if_some P Q (Some x) f h = f x h
 
+-- and so do two facts
+pub both_some : {A : Type 0} (P Q R : A → Type 0) (o : Option A) → ((x : A) → P x → Q x → R x) → IfSome o P → IfSome o Q → IfSome o R
+both_some P Q R None f p q = tt
+both_some P Q R (Some x) f p q = f x p q
+
 pub if_mapped : {A B : Type 0} (P : A → Type 0) (Q : B → Type 0) (g : A → B) (o : Option A) → ((x : A) → P x → Q (g x)) → IfSome o P → IfSome (option_map g o) Q
 if_mapped P Q g None f h = tt
 if_mapped P Q g (Some x) f h = f x h

@@ -41,6 +41,7 @@ use Rattle.amq_pool.specs.Pools.{PoolOf, ids_of}
 use Rattle.amq_engine.specs.declared.tail.Tail.{Tail}
 use Rattle.amq_engine.specs.Lists.{Lists, with_step}
 use Rattle.amq_engine.specs.Receipts.{IsCrashSafe}
+use Rattle.amq_engine.proofs.Receipts.{both_some}
 use Rattle.amq_engine.specs.Engine.{rolling, IsValid, passes, spent, refused, end_of_tail, with_put, placed_behind}
 use Rattle.amq_engine.specs.Opening.{EndsIn, NeedsFile}
 use Rattle.amq_engine.proofs.History.{history-snoc}
@@ -143,10 +144,6 @@ spent_top true top [] low is = by (leb (2 ^ 31 - 1) top) refl is where
 last_file : (config : Config) (end first file : ℕ) (history : List Placed) → IsConfig config → passes config.file_size end (Some 18) ≡ true → EndsIn first history file end → fold (λ _ p. p.file) 0 history ≡ file
 last_file config end first file [] ranges moves ends = absurd (omega (arith, ltb-true config.file_size (end + 18) moves, ends.1, ranges.file_size_least))
 last_file config end first file (p ∷ ps) ranges moves ends = sym ends.0
-
-both_some : (P Q R : Lists → Type 0) (lists : Option Lists) → ((l : Lists) → P l → Q l → R l) → IfSome lists P → IfSome lists Q → IfSome lists R
-both_some P Q R None f p q = tt
-both_some P Q R (Some l) f p q = f l p q
 
 -- so the next rollback needs a further file
 pub roll_spent : (past : Option Past) (moment : ℕ) (lists : Option Lists) (room : ℕ) (config : Config) (table : TxState) (pool : PoolOf) (t : Tail) (base : List Placed) (n tx : ℕ) → slice_get (rolled_back base) n ≡ Some tx → IsValid (rolling base n) past moment lists room config table pool t

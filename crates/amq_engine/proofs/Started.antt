@@ -2,6 +2,7 @@
 use Rattle.std.proofs.Common.{◌≡◌, ◌⊎◌, inl, inr, ℕ, ◌+◌, ◌-◌, ◌^◌, ◌<◌, ◌≤◌, Bool, true, false, ltb, List, [], ◌++◌, length, Option, None, Some, Result, Ok, Err, refl, sym, ◌∙◌, ap, subst, arith}
 use Rattle.std.specs.Prelude.{IfSome, OnErr, min, option_map}
 use Rattle.std.proofs.lemmas.Bool.{ltb-true, ltb-false}
+use Rattle.std.proofs.lemmas.List.{length-append}
 use Rattle.amq_model.specs.declared.config.Config.{Config}
 use Rattle.amq_model.specs.declared.record.Placed.{Placed}
 use Rattle.amq_model.specs.declared.history.Step.{Step}
@@ -13,6 +14,7 @@ use Rattle.amq_model.specs.Files.{Files}
 use Rattle.amq_model.specs.Leaves.{Told}
 use Rattle.amq_model.specs.Legal.{rolled_back, AreLegalOfRefused}
 use Rattle.amq_io.specs.Cause.{Faults, NoneFailed}
+use Rattle.amq_scan.specs.Segments.{records_of}
 use Rattle.amq_tx.specs.State.{TxState}
 use Rattle.amq_pool.specs.declared.pool.PoolFile.{PoolFile}
 use Rattle.amq_pool.specs.Pools.{PoolOf, ids_of}
@@ -20,10 +22,12 @@ use Rattle.amq_engine.specs.declared.chronicle.Receipted.{Receipted}
 use Rattle.amq_engine.specs.declared.tail.Tail.{Tail}
 use Rattle.amq_engine.specs.Lists.{Lists}
 use Rattle.amq_engine.specs.Directory.{files_from}
-use Rattle.amq_engine.specs.Engine.{rolling, IsValid, IsBlank, AreSpentAtLast, with_files}
+use Rattle.amq_engine.specs.Engine.{Stage, rolling, IsValid, IsBlank, AreSpentAtLast, with_files}
 use Rattle.amq_engine.specs.Opening.{HasBase, HasNumbers, AreRolledBack, EndsIn, IsFilled, HasOpenCause, HasRollCause, NeedsFile, rollbacks_behind}
 use Rattle.amq_engine.specs.Receipts.{IsLastCount}
 use Rattle.amq_engine.proofs.Receipts.{if_some}
+use Rattle.amq_engine.proofs.History.{length-placed}
+use Rattle.amq_engine.proofs.Sound.{all_durable}
 use Rattle.amq_engine.proofs.Going.{files_many, files_are}
 
 -- ---- the files
@@ -119,6 +123,14 @@ module _ (past : Option Past) (moment : ℕ) (room : ℕ) (config : Config) (tab
     where
       some : (l : Lists) → IsLastCount t.durable l.receipts → l.receipts ≡ [] → ⊥
       some l last none = let F : List Receipted → Type 0 = λ rs. IsLastCount t.durable rs in subst F none last
+
+-- where nothing waits the last receipt counts all appends
+pub valid_counted : (stage : Stage) (past : Option Past) (moment : ℕ) (lists : Option Lists) (room : ℕ) (config : Config) (table : TxState) (pool : PoolOf) (t : Tail) → t.buffer.since ≡ None → IsValid stage past moment lists room config table pool t → IfSome lists (λ l. IsLastCount (length (history_of l.steps)) l.receipts)
+valid_counted stage past moment None room config table pool t none v = tt
+valid_counted stage past moment (Some l) room config table pool t none v =
+    let p = v.sound.parts in
+    let all : t.durable ≡ length (history_of l.steps) = all_durable config table pool t p (p.first.0 none) ∙ p.count ∙ ap (λ (n : ℕ). length (records_of p.closed) + n) (sym (length-placed t.file.id p.items)) ∙ sym (length-append (records_of p.closed) _) ∙ ap length (sym p.placed) ∙ ap (λ (ss : List Step). length (history_of ss)) (sym v.sound.told.same) in
+    subst (λ (n : ℕ). IsLastCount n l.receipts) all v.last
 
 -- before the first rollback
 pub unstepped_legal : (config : Config) (lists : Option Lists) → IfSome lists (λ l. l.steps ≡ []) → IfSome lists (λ l. AreLegalOfRefused l.base l.steps config)

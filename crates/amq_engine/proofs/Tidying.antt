@@ -1,12 +1,12 @@
 -- What leaves a directory tidy: no compacted and no temporary file is there.
-use Rattle.std.proofs.Common.{◌≡◌, ◌⊎◌, inl, inr, ℕ, ◌+◌, ◌-◌, ◌^◌, ◌<◌, Bool, true, false, List, Option, None, Some, refl, sym, ◌∙◌, ap, arith}
+use Rattle.std.proofs.Common.{◌≡◌, ◌⊎◌, inl, inr, ℕ, ◌+◌, ◌-◌, ◌^◌, ◌<◌, Bool, true, false, cond, List, Option, None, Some, refl, sym, ◌∙◌, ap, arith}
 use Rattle.std.specs.Prelude.{IsSome, is_some, ◌||◌}
 use Rattle.std.specs.FinMap as finite
 use Rattle.amq_model.specs.declared.config.Config.{Config}
-use Rattle.amq_model.specs.Names.{is_compacted, is_temporary, data_number, compacted_number}
+use Rattle.amq_model.specs.Names.{is_data, is_compacted, is_temporary, data_number, compacted_number}
 use Rattle.amq_model.specs.Files.{FileName, Files, File}
 use Rattle.amq_model.specs.Calls.{Past}
-use Rattle.amq_model.specs.Leaves.{Told, Leaves, IsThere}
+use Rattle.amq_model.specs.Leaves.{Told, Leaves, IsThere, SparesAllBut}
 use Rattle.amq_model.proofs.Chain.{told_then}
 use Rattle.amq_header.specs.Classes.{data_name, temporary_name, temporary_number}
 use Rattle.amq_header.specs.declared.classes.FileClass.TheVariants.{DataFile, Compacted, Temporary}
@@ -15,6 +15,7 @@ use Rattle.amq_header.proofs.Made.{data_is_read}
 use Rattle.amq_pool.specs.Pools.{Making, Made}
 use Rattle.amq_loader.specs.Loads.{is_leftover, IsTidy}
 use Rattle.amq_engine.specs.Puts.{Puts, Put}
+use Rattle.amq_engine.specs.DataFiles.{HasId, id_and_length}
 use Rattle.amq_engine.proofs.Standing.{same_or_not}
 
 -- a data file's name isn't that of a compacted or temporary file
@@ -59,6 +60,26 @@ tidy_put n place bytes o s there tidy put q is = by (same_or_not q n) where
 told_both : (P Q : Files → Type 0) (h : Option Past) → Told h P → Told h Q → Told h (λ s. P s × Q s)
 told_both P Q None p q = tt
 told_both P Q (Some h) p q = (p, q)
+
+-- behind calls that wrote to a data file alone
+tidy_spared : (used : FileName) (id : ℕ) (o s : Files) → HasId id o used → IsTidy o → SparesAllBut (λ n. n ≡ used) o s → IsTidy s
+tidy_spared used id o s has tidy spares n is = by (same_or_not n used) where
+  numbered : (k : Option ℕ) → data_number used ≡ k → is_some k ≡ true → is_leftover used ≡ true → ⊥
+  numbered None e some left = absurd cc
+  numbered (Some k) e some left = data_no_leftover used k e left
+
+  of_data : (b : Bool) → is_data used ≡ b → cond b (id_and_length (finite.get o used)) None ≡ Some (id, has.0) → is_leftover used ≡ true → ⊥
+  of_data false isnt there left = absurd cc
+  of_data true is_one there left = numbered (data_number used) refl is_one left
+
+  by : (n ≡ used) ⊎ (n ≡ used → ⊥) → finite.get s n ≡ None
+  by (inl e) = absurd (of_data (is_data used) refl has.1 (sym (ap is_leftover e) ∙ is))
+  by (inr ne) = spares n ne ∙ tidy n is
+
+pub told_spared : (used : FileName) (id : ℕ) (a b : Option Past) → Told a (λ s. HasId id s used) → Leaves (SparesAllBut (λ n. n ≡ used)) (SparesAllBut (λ n. n ≡ used)) a b → Told a IsTidy → Told b IsTidy
+told_spared used id a b has went tidy =
+    let K : Files → Files → Type 0 = SparesAllBut (λ n. n ≡ used) in
+    told_then K K (λ s. HasId id s used × IsTidy s) IsTidy a b (told_both (λ s. HasId id s used) IsTidy a has tidy) (λ o s was k. tidy_spared used id o s was.0 was.1 k) went
 
 pub told_put : (n : FileName) (place : ℕ) (bytes : List ℕ) (a b : Option Past) → Told a (IsThere n) → Leaves (Puts n place bytes) (Put n place bytes) a b → Told a IsTidy → Told b IsTidy
 told_put n place bytes a b there went tidy =

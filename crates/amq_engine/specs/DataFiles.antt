@@ -11,10 +11,12 @@ use Rattle.amq_model.specs.Directory.{data_files}
 use Rattle.amq_model.specs.Files.{FileName, File, Files, Image, IsReading}
 use Rattle.amq_model.specs.Calls.{Past, content}
 use Rattle.amq_model.specs.Leaves.{Leaves, Syncs, Told, IsThere, IsSyncedFile, SparesAllBut}
+use Rattle.amq_model.specs.Legal.{rolled_back}
 use Rattle.amq_header.specs.Classes.{data_name, temporary_name}
-use Rattle.amq_loader.specs.Loads.{is_leftover}
+use Rattle.amq_loader.specs.Loads.{is_leftover, IsTidy}
 use Rattle.amq_engine.specs.Lists.{Lists}
 use Rattle.amq_engine.specs.Opening.{HasNumbers, StandsFrom}
+use Rattle.amq_engine.specs.Receipts.{IsLastCount}
 use Rattle.amq_engine.specs.Engine.{EngineOf, prepares}
 
 -- ---- the data files
@@ -122,7 +124,7 @@ pub record HasOpenedFiles (config : Config) (highest : ℕ) (old new : Option Pa
 abbrev pub file_of_last : ℕ → List Placed → ℕ
 file_of_last first history = fold (λ _ p. p.file) first history
 
--- Which data files there are behind calls from an opening on that made this history: those that there were, and those of the next numbers, as many as the history and the configuration need; where not all was done, maybe one file more is asked for, which may be there or not; and the calls wrote to no file but the new ones and leftovers that were there.
+-- Which data files there are behind calls from an opening on that made this history: those that there were, and those of the next numbers, as many as the history and the configuration need; where not all was done, maybe one file more is asked for, which may be there or not; the calls wrote to no file but the new ones and leftovers that were there; and where all was done no leftover is there.
 pub record HasFilesOf (done : Bool) (config : Config) (history : List Placed) (old new : Option Past) : Type 0 where
   pub files : ℕ
   pub before : ℕ
@@ -133,6 +135,7 @@ pub record HasFilesOf (done : Bool) (config : Config) (history : List Placed) (o
   pub worked : Worked done (SyncsAllBut (IsRenewed old before most)) config.file_size before most old new
   pub stands : file_of_last before history ≤ worked.last
   pub enough : done ≡ true → (config.min_files ≤ files + (most - before)) ⊎ (most ≡ 2 ^ 31 - 1)
+  pub tidy : done ≡ true → Told new IsTidy
   pub no_more : (most ≤ (if done then file_of_last (before + 1) history else file_of_last (before + 1) history + 1)) ⊎ (files + (most - before) ≤ config.min_files)
 
 -- The same of the calls so far of a journal whose greatest number this is, and whose history stands from the head of the first new file on, up to this end of the file in use.
@@ -144,6 +147,17 @@ pub record HasFilesSoFar (done : Bool) (config : Config) (file end highest : ℕ
   pub begun : files.before < file
   pub stands : StandsFrom config (files.before + 1) file end l
 
--- what an opening that failed leaves: all files with the bytes that they had, or the files of what it appended
-abbrev pub HasFailedFiles : Config → List Placed → Option Past → Option Past → Type 0
-HasFailedFiles config history old new = Leaves Syncs Syncs old new ⊎ HasFilesOf false config history old new
+-- How an opening failed that had begun its first file, in calls behind that: a rollback is still owed, and the highest number is that of the last append's file; or no further file was asked for; or no rollback is owed and the last receipt counts all appends.
+abbrev pub FailedFlushed : Config → ℕ → ℕ → List ℕ → Option Past → Option Past → Lists → Type 0
+FailedFlushed config first highest txs old new l =
+    let last = file_of_last first (history_of l.steps) in
+    ((length l.steps < length txs) × (highest ≡ last)) ⊎ ((highest ≡ last) × WorkedTo true config.file_size first first highest old new) ⊎ ((length l.steps ≡ length txs) × IsLastCount (length (history_of l.steps)) l.receipts)
+
+-- What an opening that failed leaves where it had begun its first file: the files of what it appended. Behind that of the last append it asked for at most one more while a rollback is still owed, and then for none before the last receipt counted all appends.
+pub record HasBegunFiles (config : Config) (l : Lists) (old new : Option Past) : Type 0 where
+  pub files : HasFilesOf false config (history_of l.steps) old new
+  pub flushed : (let last = file_of_last (files.before + 1) (history_of l.steps) in ((length l.steps < length (rolled_back l.base)) × (files.most ≤ last + 1)) ⊎ (files.most ≤ last) ⊎ ((length l.steps ≡ length (rolled_back l.base)) × IsLastCount (length (history_of l.steps)) l.receipts))
+
+-- what an opening that failed leaves: all files with the bytes that they had, or those that it had begun
+abbrev pub HasFailedFiles : Config → Lists → Option Past → Option Past → Type 0
+HasFailedFiles config l old new = Leaves Syncs Syncs old new ⊎ HasBegunFiles config l old new

@@ -181,7 +181,7 @@ impl<D: Disk, C: Chronicle> Engine<D, C> {
         ensures failed_spent { IfErr result
             (λ e. IfSome (C.lists e.chronicle) (λ l. AreSpentAtLast [] l.steps)) }
         ensures failed_files { IfErr result (λ e. IfSome (C.lists e.chronicle)
-            (λ l. HasFailedFiles config (history_of l.steps) (D.past disk) (D.past e.disk))) }
+            (λ l. HasFailedFiles config l (D.past disk) (D.past e.disk))) }
         ensures failed_unnoted { IfErr result
             (λ e. IfSome (C.lists e.chronicle) (λ l. l.receipts ≡ [] → IsBlank l)) }
         ensures begins { IfOk result (λ e.

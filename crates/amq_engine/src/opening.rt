@@ -316,8 +316,9 @@ pub fn begin<D: Disk, C: Chronicle>(
         × Told (D.past disk.old) (HasNumbers b.files before)
         × Works (SyncsAllBut (IsRenewed (D.past disk.old) before (before + 1)))
         config.now.file_size before (before + 1) (D.past disk.old) (D.past disk.new)) }
-    ensures failed_files { OnErr result
-        (HasFailedFiles config.now [] (D.past disk.old) (D.past disk.new)) }
+    ensures failed_files { OnErr result ((l : Lists)
+        → l.steps ≡ []
+        → HasFailedFiles config.now l (D.past disk.old) (D.past disk.new)) }
     ensures tidy { OnOk result (Told (D.past disk.new) IsTidy) }
     ensures cause { IfErr result (λ fault.
         HasOpenCause config.now fault (C.lists chronicle.new) (D.past disk.old) (D.past disk.new)

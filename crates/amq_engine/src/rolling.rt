@@ -89,6 +89,8 @@ pub fn roll_back<D: Disk, C: Chronicle>(
         pool.old.highest pool.old.highest pool.new.highest (D.past disk.old) (D.past disk.new)) }
     ensures failed_last { OnErr result (IfSome (C.lists chronicle.new)
         (λ l. pool.new.highest ≡ file_of_last tail.old.file.id (history_of l.steps))) }
+    ensures failed_few { OnErr result
+        (IfSome (C.lists chronicle.new) (λ l. length l.steps < length txs.now)) }
     ensures tidy { OnOk result (Told (D.past disk.old) IsTidy → Told (D.past disk.new) IsTidy) }
     ensures first { (r : Receipted)
         → IfSome (C.lists chronicle.old) (StartsWith r)

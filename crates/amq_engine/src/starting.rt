@@ -12,7 +12,7 @@ ghost use Rattle.amq_pool.specs.Pools.{ids_of, numbered_file};
 ghost use Rattle.amq_loader.specs.Loads.{IsStateOf, IsTidy};
 ghost use Rattle.amq_engine.specs.declared.chronicle.Receipted.{Receipted};
 ghost use Rattle.amq_engine.specs.Directory.{files_from};
-ghost use Rattle.amq_engine.specs.DataFiles.{WorkedTo, HasOpenedFiles, HasFailedFiles, HasFilesSoFar, file_of_last};
+ghost use Rattle.amq_engine.specs.DataFiles.{WorkedTo, HasOpenedFiles, HasFailedFiles, HasFilesSoFar, FailedFlushed, file_of_last};
 ghost use Rattle.amq_engine.specs.Receipts.{IsCrashSafe, GoesOn, BeginsBySyncs, StartsWith};
 ghost use Rattle.amq_engine.specs.Engine.{opened, rolling, IsValid, IsBlank, AreSpentAtLast, end_of_tail};
 ghost use Rattle.amq_engine.specs.Opening.{HasBase, AreRolledBack, AreFirstRollbacks, EndsIn, IsFilled, HasOpenCause, HasRollCause, rollbacks_behind};
@@ -106,6 +106,9 @@ fn complete<D: Disk, C: Chronicle>(
         (λ l. let last = file_of_last tail.old.file.id (history_of l.steps) in
         (pool.new.highest ≡ last) ⊎ ((last ≤ pool.new.highest)
         × (files + (pool.new.highest + 2 - tail.old.file.id) ≤ config.now.min_files)))) }
+    ensures failed_flushed { OnErr result (IfSome (C.lists chronicle.new)
+        (FailedFlushed config.now pool.old.highest pool.new.highest txs.now (D.past disk.old)
+        (D.past disk.new))) }
     ensures tidy { OnOk result (Told (D.past disk.old) IsTidy → Told (D.past disk.new) IsTidy) }
     ensures first { (r : Receipted)
         → IfSome (C.lists chronicle.old) (StartsWith r)
@@ -159,7 +162,7 @@ pub fn start<D: Disk, C: Chronicle>(
         (λ l. HasFilesSoFar true config.now s.tail.file.id (end_of_tail s.tail) s.pool.highest l
         (D.past disk.old) (D.past disk.new))) }
     ensures failed_files { OnErr result (IfSome (C.lists chronicle.new)
-        (λ l. HasFailedFiles config.now (history_of l.steps) (D.past disk.old) (D.past disk.new))) }
+        (λ l. HasFailedFiles config.now l (D.past disk.old) (D.past disk.new))) }
     ensures later { (D.faults disk.old).0 ≤ (D.faults disk.new).0 }
     ensures cause { IfErr result (λ fault.
         HasOpenCause config.now fault (C.lists chronicle.new) (D.past disk.old) (D.past disk.new)

@@ -6,7 +6,7 @@ use Rattle.amq_model.specs.Leaves.{Told, HoldsSince}
 use Rattle.amq_tx.specs.Tables.{state_of}
 use Rattle.amq_pool.specs.declared.pool.PoolFile.{PoolFile}
 use Rattle.amq_pool.specs.Pools.{PoolOf}
-use Rattle.amq_engine.specs.Lists.{with_base, with_receipt}
+use Rattle.amq_engine.specs.Lists.{Lists, with_base, with_receipt}
 use Rattle.amq_engine.specs.Engine.{Holds, IsBlank}
 use Rattle.amq_engine.specs.Opening.{HasBase, AreFirstRollbacks, HasOpenCause, HasNumbers}
 use Rattle.amq_engine.proofs.Begun.{IsNoted, noted, noted_safe, base_now, begun_valid, blank_safe, still_blank, noted_steps, noted_base, noted_unblank, noted_rollbacks, noted_begins, noted_lists, told_begun, behind_fault, when_fine}
@@ -309,16 +309,17 @@ returns-in-Ok-clause-begun g c =
 
 -- only syncs came before
 pub returns-in_err-loaded-clause-failed_files : goal.returns-in_err-loaded-clause-failed_files
-returns-in_err-loaded-clause-failed_files g c = on_err _ (HasFailedFiles c.args.config.now [] (g.D.Disk.past c.args.disk.now) (g.D.Disk.past c.find.new.disk)) (inl c.find.ensures.crash)
+returns-in_err-loaded-clause-failed_files g c =
+    on_err _ ((l : Lists) → l.steps ≡ [] → HasFailedFiles c.args.config.now l (g.D.Disk.past c.args.disk.now) (g.D.Disk.past c.find.new.disk)) (λ l none. inl c.find.ensures.crash)
 
 pub returns-then-is_err-clause-failed_files : goal.returns-then-is_err-clause-failed_files
-returns-then-is_err-clause-failed_files g c = inl c.find.ensures.crash
+returns-then-is_err-clause-failed_files g c l none = inl c.find.ensures.crash
 
 pub returns-in-Err-clause-failed_files : goal.returns-in-Err-clause-failed_files
-returns-in-Err-clause-failed_files g c =
+returns-in-Err-clause-failed_files g c l none =
     let past = g.D.Disk.past in
     let config = c.args.config.now in
     let loaded = c.in_ok-loaded.field-0.loaded in
     let h = loaded.highest_file in
-    inr (unbegun_has config (length loaded.files) h (past c.args.disk.now) (past c.renew.new.disk) c.in_ok-loaded.ensures.unspent c.in_ok-loaded.ensures.numbers
+    inr (unbegun_has config (length loaded.files) h l (past c.args.disk.now) (past c.renew.new.disk) none c.in_ok-loaded.ensures.unspent c.in_ok-loaded.ensures.numbers
     (begun_worked false config.file_size h (past c.args.disk.now) (past c.find.new.disk) (past c.renew.new.disk) c.in_ok-loaded.ensures.unspent c.find.ensures.crash c.in-Err.ensures.failed_works))

@@ -1,4 +1,4 @@
-use Rattle.std.proofs.Common.{◌≡◌, ℕ, List, [], length, slice_get, refl, sym, ap, subst, ◌∙◌, arith, true, false}
+use Rattle.std.proofs.Common.{◌≡◌, ◌<◌, ℕ, List, [], length, slice_get, refl, sym, ap, subst, ◌∙◌, arith, true, false}
 use Rattle.std.specs.Prelude.{take, IfSome}
 use Rattle.std.proofs.lemmas.Option.{slice_get-get_or}
 use Rattle.amq_model.specs.declared.history.Step.{Step}
@@ -134,3 +134,13 @@ returns-in_err-roll_back_next-clause-failed_last g c =
     on_err _ (IfSome (g.C.Chronicle.lists c.roll_back_next.new.chronicle) (λ l. P l.steps))
     (steps_so P before (g.C.Chronicle.lists c.roll_back_next.new.chronicle) c.in_err-roll_back_next.ensures.unstepped
     (if_some (λ l. EndsIn first (history_of l.steps) t.file.id (end_of_tail t)) (λ l. P l.steps) before (λ l ends. at ∙ ends.0) c.loop-done.invariant.ends))
+
+-- the one that failed isn't noted
+pub returns-in_err-roll_back_next-clause-failed_few : goal.returns-in_err-roll_back_next-clause-failed_few
+returns-in_err-roll_back_next-clause-failed_few g c =
+    let P : List Step → Type 0 = λ ss. length ss < length c.args.txs.now in
+    let before = g.C.Chronicle.lists c.loop-done.chronicle in
+    let more : c.loop-done.done < length c.args.txs.now = grind (arith, c.loop-done-test.true) in
+    on_err _ (IfSome (g.C.Chronicle.lists c.roll_back_next.new.chronicle) (λ l. P l.steps))
+    (steps_so P before (g.C.Chronicle.lists c.roll_back_next.new.chronicle) c.in_err-roll_back_next.ensures.unstepped
+    (if_some (λ l. ArePlaced c.args.config.now c.args.tail.now.file.id c.args.txs.now c.loop-done.done l.steps) (λ l. P l.steps) before (λ l are. omega (arith, are.0, more)) c.loop-done.invariant.placed))

@@ -1,18 +1,20 @@
-use Rattle.std.proofs.Common.{◌≡◌, ◌⊎◌, inl, inr, ◌≤◌, false, arith, ℕ, List, ◌+◌, ◌-◌, ◌^◌, length, sym, ap, ◌∙◌, true, subst}
+use Rattle.std.proofs.Common.{◌≡◌, ◌⊎◌, inl, inr, ◌<◌, ◌≤◌, false, arith, ℕ, List, ◌+◌, ◌-◌, ◌^◌, length, sym, ap, ◌∙◌, true, subst}
 use Rattle.std.specs.Prelude.{min, take, is_ok, is_some, IfSome}
 use Rattle.amq_model.specs.declared.history.Step.{Step}
 use Rattle.amq_model.specs.Answers.{history_of}
 use Rattle.amq_tx.specs.Tables.{state_of}
 use Rattle.amq_engine.specs.declared.tail.Tail.{Tail}
+use Rattle.amq_engine.specs.Lists.{Lists}
+use Rattle.amq_engine.specs.Receipts.{IsLastCount}
 use Rattle.amq_engine.specs.Engine.{rolling, with_files, end_of_tail}
 use Rattle.amq_engine.proofs.Sound.{sound_there, sound_within}
 use Rattle.amq_engine.specs.Opening.{EndsIn, rollbacks_behind}
-use Rattle.amq_engine.proofs.Started.{filled_by, on_err}
-use Rattle.amq_engine.proofs.Receipts.{if_some}
+use Rattle.amq_engine.proofs.Started.{filled_by, on_err, valid_counted}
+use Rattle.amq_engine.proofs.Receipts.{if_some, both_some}
 use Rattle.amq_engine.proofs.Rollbacks.{same_steps, steps_so}
 use Rattle.amq_model.specs.declared.config.Config.{Config}
 use Rattle.amq_pool.specs.declared.pool.PoolFile.{PoolFile}
-use Rattle.amq_engine.specs.DataFiles.{WorkedTo, file_of_last}
+use Rattle.amq_engine.specs.DataFiles.{WorkedTo, FailedFlushed, file_of_last}
 use Rattle.amq_engine.proofs.OpenedFiles.{to_and_then, put_to, further_to}
 use Rattle.amq_engine.proofs.FilesTold.{sound_start}
 use Rattle.amq_engine.proofs.GoingOn.{goes_through}
@@ -210,3 +212,47 @@ returns-in-Err-fill_pool-clause-failed_most g c =
     steps_so P (lists c.roll_back.new.chronicle) (lists c.write_out.new.chronicle) (same_steps _ c.roll_back.new.tail.appended _ (lists c.roll_back.new.chronicle) (lists c.write_out.new.chronicle) c.write_out.ensures.receipt)
     (if_some (λ l. EndsIn first (history_of l.steps) t.file.id (end_of_tail t)) (λ l. P l.steps) (lists c.roll_back.new.chronicle)
     (λ l ends. inr (omega (arith, ends.0, c.in_ok-roll_back.ensures.begun.1, c.fill_pool.ensures.more), omega (arith, few, same, c.in_ok-roll_back.ensures.begun.1, c.in_ok-roll_back.ensures.later_file))) c.in_ok-roll_back.ensures.ends)
+
+-- a rollback is still owed
+pub returns-in_err-roll_back-clause-failed_flushed : goal.returns-in_err-roll_back-clause-failed_flushed
+returns-in_err-roll_back-clause-failed_flushed g c =
+    let lists = g.C.Chronicle.lists c.roll_back.new.chronicle in
+    let first = c.args.tail.now.file.id in
+    let highest = c.roll_back.new.pool.highest in
+    let F : Lists → Type 0 = FailedFlushed c.args.config.now c.args.pool.now.highest highest c.args.txs.now (g.D.Disk.past c.args.disk.now) (g.D.Disk.past c.roll_back.new.disk) in
+    on_err _ (IfSome lists F)
+    (both_some (λ l. length l.steps < length c.args.txs.now) (λ l. highest ≡ file_of_last first (history_of l.steps)) F lists (λ l few last. inl (few, last ∙ sym (ap (λ (n : ℕ). file_of_last n (history_of l.steps)) c.requires.begun.1)))
+    c.in_err-roll_back.ensures.failed_few c.in_err-roll_back.ensures.failed_last)
+
+-- the flush failed, and no further file was asked for
+pub returns-in-Err-clause-failed_flushed : goal.returns-in-Err-clause-failed_flushed
+returns-in-Err-clause-failed_flushed g c =
+    let past = g.D.Disk.past in
+    let lists = g.C.Chronicle.lists in
+    let config = c.args.config.now in
+    let v = c.in_ok-roll_back.ensures.ok c.requires.valid.0 c.requires.valid.2 c.requires.valid.1 in
+    let first = c.args.pool.now.highest in
+    let mid = c.roll_back.new.pool.highest in
+    let t = c.roll_back.new.tail in
+    let put = put_to true t.file.name config.file_size mid (past c.roll_back.new.disk) (past c.write_out.new.disk) (ap (λ (f : PoolFile). f.name) c.in_ok-roll_back.ensures.named) v.sound.parts.numbers (c.write_out.ensures.works config.file_size mid) in
+    let w : WorkedTo true config.file_size first first mid (past c.args.disk.now) (past c.write_out.new.disk) = to_and_then true config.file_size first mid mid (past c.args.disk.now) (past c.roll_back.new.disk) (past c.write_out.new.disk) c.in_ok-roll_back.ensures.works put in
+    let P : List Step → Type 0 = λ ss. mid ≡ file_of_last first (history_of ss) in
+    if_some (λ l. P l.steps) (FailedFlushed config first mid c.args.txs.now (past c.args.disk.now) (past c.write_out.new.disk)) (lists c.write_out.new.chronicle) (λ l at. inr (inl (at, w)))
+    (steps_so P (lists c.roll_back.new.chronicle) (lists c.write_out.new.chronicle) (same_steps _ t.appended _ (lists c.roll_back.new.chronicle) (lists c.write_out.new.chronicle) c.write_out.ensures.receipt)
+    (if_some (λ l. EndsIn c.args.tail.now.file.id (history_of l.steps) t.file.id (end_of_tail t)) (λ l. P l.steps) (lists c.roll_back.new.chronicle)
+    (λ l ends. c.in_ok-roll_back.ensures.begun.1 ∙ ends.0 ∙ sym (ap (λ (n : ℕ). file_of_last n (history_of l.steps)) c.requires.begun.1)) c.in_ok-roll_back.ensures.ends))
+
+-- the last receipt counts all
+pub returns-in-Err-fill_pool-clause-failed_flushed : goal.returns-in-Err-fill_pool-clause-failed_flushed
+returns-in-Err-fill_pool-clause-failed_flushed g c =
+    let past = g.D.Disk.past in
+    let lists = g.C.Chronicle.lists c.write_out.new.chronicle in
+    let config = c.args.config.now in
+    let stage = rolling c.requires.valid.0 (length c.args.txs.now) in
+    let v = c.write_out.ensures.valid stage config (state_of c.roll_back.new.table) c.roll_back.new.pool (c.in_ok-roll_back.ensures.ok c.requires.valid.0 c.requires.valid.2 c.requires.valid.1) in
+    let none = ap (λ (t : Tail). t.buffer.since) c.in_default.ensures.ok in
+    let P : List Step → Type 0 = λ ss. length ss ≡ length c.args.txs.now in
+    let before = g.C.Chronicle.lists c.roll_back.new.chronicle in
+    both_some (λ l. P l.steps) (λ l. IsLastCount (length (history_of l.steps)) l.receipts) (FailedFlushed config c.args.pool.now.highest c.fill_pool.new.pool.highest c.args.txs.now (past c.args.disk.now) (past c.fill_pool.new.disk)) lists (λ l all counts. inr (inr (all, counts)))
+    (steps_so P before lists (same_steps _ c.roll_back.new.tail.appended _ before lists c.write_out.ensures.receipt) c.in_ok-roll_back.ensures.all)
+    (valid_counted stage (past c.write_out.new.disk) (g.D.Disk.moment c.write_out.new.disk) lists (g.C.Chronicle.receipt_room c.write_out.new.chronicle) config (state_of c.roll_back.new.table) c.roll_back.new.pool c.write_out.new.tail none v)

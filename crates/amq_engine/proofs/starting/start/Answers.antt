@@ -1,4 +1,4 @@
-use Rattle.std.proofs.Common.{◌≡◌, ◌⊎◌, inl, inr, false, ℕ, ◌+◌, ◌-◌, ◌^◌, List, [], length, refl, sym, ap, subst, ◌∙◌, rules, true, arith}
+use Rattle.std.proofs.Common.{◌≡◌, ◌⊎◌, inl, inr, false, ℕ, ◌+◌, ◌-◌, ◌^◌, ◌≤◌, List, [], length, refl, sym, ap, subst, ◌∙◌, rules, true, arith}
 use Rattle.std.specs.Prelude.{Err, IfErr, IfSome, min, take}
 use Rattle.amq_model.specs.declared.history.Step.{Step}
 use Rattle.amq_model.specs.Answers.{history_of}
@@ -7,9 +7,10 @@ use Rattle.amq_model.specs.Legal.{rolled_back, AreLegalOfRefused, end_of}
 use Rattle.amq_tx.specs.Tables.{state_of}
 use Rattle.amq_model.specs.Leaves.{Told}
 use Rattle.amq_engine.specs.Engine.{end_of_tail, IsBlank, AreSpentAtLast}
+use Rattle.amq_engine.specs.Lists.{Lists}
 use Rattle.amq_engine.specs.Opening.{HasBase, AreFirstRollbacks, HasOpenCause, rollbacks_behind, EndsIn}
 use Rattle.amq_engine.specs.Receipts.{IsCrashSafe}
-use Rattle.amq_engine.proofs.Receipts.{if_some}
+use Rattle.amq_engine.proofs.Receipts.{if_some, both_some}
 use Rattle.amq_engine.proofs.Found.{syncs_none}
 use Rattle.amq_engine.proofs.OpeningCalls.{no_calls}
 use Rattle.amq_engine.proofs.Stages.{valid_opened}
@@ -21,7 +22,7 @@ use Rattle.amq_engine.proofs.Rollbacks.{both_so, placed_all, told_rollbacks}
 use Rattle.amq_engine.proofs.Started.{told_filled, valid_base, valid_rolled_back, valid_appended, valid_noted, valid_spent, on_err, same_base, roll_cause, unblank}
 use Rattle.amq_pool.specs.declared.pool.PoolFile.{PoolFile}
 use Rattle.amq_pool.specs.Pools.{numbered_file}
-use Rattle.amq_engine.specs.DataFiles.{WorkedTo, SyncsAllBut, IsRenewed, HasFailedFiles, HasFilesSoFar}
+use Rattle.amq_engine.specs.DataFiles.{WorkedTo, SyncsAllBut, IsRenewed, HasFailedFiles, HasFilesSoFar, FailedFlushed, file_of_last}
 use Rattle.amq_engine.proofs.OpenedFiles.{opened_works, enough_by, failed_has}
 use Rattle.amq_engine.proofs.JournalFiles.{opened_so_far}
 use Rattle.amq_engine.proofs.Counting.{count_told}
@@ -243,31 +244,40 @@ returns-clause-opened_files g c =
 pub returns-in_default-clause-failed_files : goal.returns-in_default-clause-failed_files
 returns-in_default-clause-failed_files g c =
     let past = g.D.Disk.past c.args.disk.now in
-    if_some IsBlank (λ l. HasFailedFiles c.args.config.now (history_of l.steps) past past) (g.C.Chronicle.lists c.args.chronicle.now) (λ l blank. inl (syncs_none past)) c.requires.blank
+    if_some IsBlank (λ l. HasFailedFiles c.args.config.now l past past) (g.C.Chronicle.lists c.args.chronicle.now) (λ l blank. inl (syncs_none past)) c.requires.blank
 
 pub returns-in_err-table-clause-failed_files : goal.returns-in_err-table-clause-failed_files
 returns-in_err-table-clause-failed_files g c =
     let past = g.D.Disk.past in
     let config = c.args.config.now in
     let lists = g.C.Chronicle.lists c.begin.new.chronicle in
-    on_err _ (IfSome lists (λ l. HasFailedFiles config (history_of l.steps) (past c.args.disk.now) (past c.begin.new.disk)))
-    (if_some (λ l. l.steps ≡ []) (λ l. HasFailedFiles config (history_of l.steps) (past c.args.disk.now) (past c.begin.new.disk)) lists
-    (λ l none. subst (λ (steps : List Step). HasFailedFiles config (history_of steps) (past c.args.disk.now) (past c.begin.new.disk)) (sym none) c.in_err-table.ensures.failed_files) c.begin.ensures.unstepped)
+    let F : Lists → Type 0 = λ l. HasFailedFiles config l (past c.args.disk.now) (past c.begin.new.disk) in
+    on_err _ (IfSome lists F) (if_some (λ l. l.steps ≡ []) F lists (λ l none. c.in_err-table.ensures.failed_files l none) c.begin.ensures.unstepped)
 
 pub returns-in_err-complete-clause-failed_files : goal.returns-in_err-complete-clause-failed_files
 returns-in_err-complete-clause-failed_files g c =
     let past = g.D.Disk.past in
     let config = c.args.config.now in
     let begun = c.in_ok-table.ensures.begun in
-    let first = c.in_ok-table.field-0.file.id in
+    let before = begun.0 in
     let files = c.in_ok-table.field-0.files in
     let lists = g.C.Chronicle.lists c.complete.new.chronicle in
+    let txs = c.as_slice.result.now in
     let reached = c.complete.new.pool.highest in
-    let at : first ≡ begun.0 + 1 = ap (λ (f : PoolFile). f.id) begun.1 in
+    let at : c.in_ok-table.field-0.file.id ≡ before + 1 = ap (λ (f : PoolFile). f.id) begun.1 in
     let to = subst (λ (n : ℕ). WorkedTo false config.file_size n n reached (past c.begin.new.disk) (past c.complete.new.disk)) begun.2 c.in_err-complete.ensures.failed_works in
-    on_err _ (IfSome lists (λ l. HasFailedFiles config (history_of l.steps) (past c.args.disk.now) (past c.complete.new.disk)))
-    (if_some _ (λ l. HasFailedFiles config (history_of l.steps) (past c.args.disk.now) (past c.complete.new.disk)) lists
-    (λ l most. inr (failed_has config (history_of l.steps) files begun.0 first reached (past c.args.disk.now) (past c.begin.new.disk) (past c.complete.new.disk) at begun.4 begun.5 to most)) c.in_err-complete.ensures.failed_most)
+    let began = c.in_ok-table.ensures.valid c.in-Ok.buffer c.in-Ok.ensures in
+    let same : txs ≡ rolled_back began.0 = c.as_slice.ensures.value ∙ began.2 in
+    let failed = c.in_err-complete.ensures.failed began.0 same began.1 in
+    let based = valid_base (past c.complete.new.disk) (g.D.Disk.moment c.complete.new.disk) (g.C.Chronicle.receipt_room c.complete.new.chronicle) config (state_of c.complete.new.table) c.complete.new.pool c.complete.new.tail began.0 failed.0 lists failed.1 in
+    let F : Lists → Type 0 = λ l. HasFailedFiles config l (past c.args.disk.now) (past c.complete.new.disk) in
+    let M : ℕ → Lists → Type 0 = λ n l. (reached ≡ file_of_last n (history_of l.steps)) ⊎ ((file_of_last n (history_of l.steps) ≤ reached) × (files + (reached + 2 - n) ≤ config.min_files)) in
+    let Z : ℕ → Lists → Type 0 = λ n. FailedFlushed config n reached txs (past c.begin.new.disk) (past c.complete.new.disk) in
+    let most : IfSome lists (M (before + 1)) = subst (λ (n : ℕ). IfSome lists (M n)) at c.in_err-complete.ensures.failed_most in
+    let flushed : IfSome lists (Z (before + 1)) = subst (λ (n : ℕ). IfSome lists (Z n)) begun.2 c.in_err-complete.ensures.failed_flushed in
+    on_err _ (IfSome lists F)
+    (both_some (λ l. l.base ≡ began.0) (λ l. M (before + 1) l × Z (before + 1) l) F lists (λ l is so. inr (failed_has config l files before reached txs (past c.args.disk.now) (past c.begin.new.disk) (past c.complete.new.disk) begun.4 begun.5 so.0 (same ∙ ap rolled_back (sym is)) to so.1)) based
+    (both_some (M (before + 1)) (Z (before + 1)) (λ l. M (before + 1) l × Z (before + 1) l) lists (λ l m f. (m, f)) most flushed))
 
 pub returns-clause-journal_files : goal.returns-clause-journal_files
 returns-clause-journal_files g c =
@@ -290,4 +300,4 @@ returns-clause-journal_files g c =
     let placed = both_so (λ ss. history_of ss ≡ take (length ss) (rollbacks_behind config first 16 txs)) (λ ss. length ss ≡ length txs) (λ ss. history_of ss ≡ rollbacks_behind config first 16 txs) lists (λ ss front all. placed_all config first txs ss front all) c.complete.ensures.placed c.in_ok-complete.ensures.all in
     let ends = both_so (λ ss. history_of ss ≡ rollbacks_behind config first 16 txs) (λ ss. EndsIn first (history_of ss) tail.file.id (end_of_tail tail)) (λ ss. (history_of ss ≡ rollbacks_behind config first 16 txs) × EndsIn first (history_of ss) tail.file.id (end_of_tail tail)) lists (λ ss p e. (p, e)) placed c.in_ok-complete.ensures.ends in
     if_some (λ l. (history_of l.steps ≡ rollbacks_behind config first 16 txs) × EndsIn first (history_of l.steps) tail.file.id (end_of_tail tail)) (λ l. HasFilesSoFar true config tail.file.id (end_of_tail tail) highest l (past c.args.disk.now) (past c.complete.new.disk)) lists
-    (λ l both. opened_so_far config files begun.0 first tail.file.id (end_of_tail tail) highest n txs l (past c.args.disk.now) (past c.begin.new.disk) (past c.complete.new.disk) at begun.4 begun.5 to c.in_ok-complete.ensures.later_file c.in_ok-complete.ensures.filled.0 refl enough both.0 both.1) ends
+    (λ l both. opened_so_far config files begun.0 first tail.file.id (end_of_tail tail) highest n txs l (past c.args.disk.now) (past c.begin.new.disk) (past c.complete.new.disk) at begun.4 begun.5 to c.in_ok-complete.ensures.later_file c.in_ok-complete.ensures.filled.0 refl enough both.0 both.1 (c.in_ok-complete.ensures.tidy c.in_ok-table.ensures.tidy)) ends

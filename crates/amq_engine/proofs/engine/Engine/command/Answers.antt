@@ -684,7 +684,7 @@ returns-in-Err-ready-clause-journal_files g c done first =
     subst (λ (n : Bool). IfSome (lists c.args.self.now.chronicle) (λ l. HasFilesSoFar done c.args.self.now.config c.args.self.now.file c.args.self.now.end c.args.self.now.highest l first (past c.args.self.now.disk)) → IfSome (lists c.ready.new.chronicle) (λ l. HasFilesSoFar (done && n) e.config t.file.id (end_of_tail t) c.ready.new.pool.highest l first (past c.ready.new.disk))) (sym (fault_noted c.in-Err-ready.fault c.close_after.result c.close_after.ensures.refusal))
     (subst (λ v. IfSome (lists v.chronicle) (λ l. HasFilesSoFar done v.config v.file v.end v.highest l first (past v.disk)) → IfSome (lists c.ready.new.chronicle) (λ l. HasFilesSoFar (done && false) e.config t.file.id (end_of_tail t) c.ready.new.pool.highest l first (past c.ready.new.disk))) c.self.view_is
     (so_far_call done first (past e.disk) (lists e.chronicle) (g.C.Chronicle.receipt_room e.chronicle) e.config (state_of e.table) e.pool e.tail c.self.invariant.ranges sound (lists c.ready.new.chronicle) (none_steps (lists e.chronicle) (lists c.ready.new.chronicle) same) false (past c.ready.new.disk) t.file.id (end_of_tail t) c.ready.new.pool.highest (cond b (h + 1) h) c.in-Err-ready.ensures.failed_works
-    (most_by b h).1 most (omega (arith, pool)) (λ d. absurd (no_true d)) (λ d. pool) (omega (arith, at.0)) (omega (arith, at.0, pool, used_within e.config (state_of e.table) e.pool e.tail sound.parts)) needs
+    (most_by b h).1 most (omega (arith, pool)) (λ d. absurd (no_true d)) (λ d. pool) (omega (arith, at.0)) (omega (arith, at.0, pool, used_within e.config (state_of e.table) e.pool e.tail sound.parts)) needs (λ d. absurd (no_true d))
     (λ from stands. stands_same e.config from e.tail.file.id (end_of_tail e.tail) t.file.id (end_of_tail t) (lists e.chronicle) (lists c.ready.new.chronicle) same at.0 at.1 stands)))
   where
     no_true : {A : Type 0} → false ≡ true → A
@@ -712,7 +712,7 @@ returns-clause-journal_files g c done first =
     let stands = returns-clause-stands g c in
     λ is. (subst (λ v. ((from : ℕ) → IfSome (lists v.chronicle) (StandsFrom v.config from v.file v.end) → IfSome (lists c.step-2.new.self) (StandsFrom e.config from t.file.id (end_of_tail t))) → IfSome (lists v.chronicle) (λ l. HasFilesSoFar done v.config v.file v.end v.highest l first (past v.disk)) → IfSome (lists c.step-2.new.self) (λ l. HasFilesSoFar (done && true) e.config t.file.id (end_of_tail t) c.ready.new.pool.highest l first (past c.ready.new.disk))) c.self.view_is
     (λ stand. so_far_call done first (past e.disk) (lists e.chronicle) (g.C.Chronicle.receipt_room e.chronicle) e.config (state_of e.table) e.pool e.tail c.self.invariant.ranges sound (lists c.step-2.new.self) (λ none. none_mapped _ (lists c.ready.new.chronicle) (lists c.step-2.new.self) c.step-2.ensures.noted (none_steps (lists e.chronicle) (lists c.ready.new.chronicle) same none)) true (past c.ready.new.disk) t.file.id (end_of_tail t) c.ready.new.pool.highest (cond b (h + 1) h) c.in_default-ready.ensures.works
-    (most_by b h).1 low (omega (arith, highest, n.2)) (λ d. most) (λ d. absurd (no_false d)) (omega (arith, file, n.0)) (omega (arith, file, highest, n.1)) needs stand)) stands is
+    (most_by b h).1 low (omega (arith, highest, n.2)) (λ d. most) (λ d. absurd (no_false d)) (omega (arith, file, n.0)) (omega (arith, file, highest, n.1)) needs (λ d. c.in_default-ready.ensures.tidy) stand)) stands is
   where
     no_false : {A : Type 0} → true ≡ false → A
     no_false e = absurd cc
