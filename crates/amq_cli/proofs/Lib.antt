@@ -13,7 +13,6 @@ pub mod OwedExamples
 pub mod PrintExamples
 pub mod Recovering
 pub mod Beginning
-pub mod Digits
 pub mod Causes
 pub mod CountsExamples
 pub mod DataFileLemmas

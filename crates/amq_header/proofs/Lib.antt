@@ -1,4 +1,3 @@
-pub mod Digits
 pub mod Endings
 pub mod Spelled
 pub mod Made

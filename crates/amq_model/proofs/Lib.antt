@@ -5,6 +5,7 @@ pub mod Asking
 pub mod Chain
 pub mod ControlFiles
 pub mod Crashes
+pub mod Digits
 pub mod Directories
 pub mod EffectGrows
 pub mod Effects

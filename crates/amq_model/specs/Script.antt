@@ -1,9 +1,9 @@
 -- Scripts: what their lines say, and the first line outside the grammar.
-use Rattle.std.specs.Prelude.{ℕ, ◌+◌, ◌-◌, ◌*◌, ◌%◌, ◌^◌, Bool, true, false, not, ◌&&◌, nat_lt, nat_le, ◌==◌, if◌then◌else◌, List, [], ◌∷◌, ◌++◌, length, drop, filter, fold, count_by, slice_index, slice_index_or, codes, Option, Some, None, Result, Ok, Err}
+use Rattle.std.specs.Prelude.{ℕ, ◌+◌, ◌*◌, ◌%◌, Bool, true, false, not, ◌&&◌, nat_lt, nat_le, ◌==◌, if◌then◌else◌, List, [], ◌∷◌, ◌++◌, length, drop, filter, fold, count_by, slice_index, slice_index_or, codes, Option, Some, None, ok_or, Result, Ok, Err}
 use Rattle.std.specs.List.{slice_split, onto_first, cons_option, list_all, list_any}
 use Rattle.std.specs.Option.{option_to_list}
 use Rattle.std.specs.Char.{digit_value}
-use Rattle.amq_model.specs.Names.{same, is_digit, value_of}
+use Rattle.amq_model.specs.Names.{same, number_spelled}
 use Rattle.amq_model.specs.declared.command.Command.TheVariants as c
 use Rattle.amq_model.specs.declared.script.Mode.{Mode}
 use Rattle.amq_model.specs.declared.script.Mode.TheVariants.{Replay, Run}
@@ -48,17 +48,13 @@ label_of word = if is_label word then Ok word else Err w.Label
 abbrev pub known_label_of : List (List ℕ) → List ℕ → Result (List ℕ) ScriptCause
 known_label_of labels word = if is_label word then (if list_any (same word) labels then Ok word else Err w.Unbegun) else Err w.Label
 
--- so many decimal digits at most, and at least one
-abbrev pub are_digits : ℕ → List ℕ → Bool
-are_digits most word = nat_le 1 (length word) && nat_le (length word) most && list_all is_digit word
+-- an id, a transaction's number or a moment
+abbrev pub number_of : List ℕ → Result ℕ ScriptCause
+number_of word = ok_or (number_spelled word) w.Number
 
 -- a number of at most so many digits, in this range
 abbrev pub number_within : ℕ → ℕ → ℕ → List ℕ → Result ℕ ScriptCause
-number_within digits least most word = if are_digits digits word && nat_le least (value_of word) && nat_le (value_of word) most then Ok (value_of word) else Err w.Number
-
--- an id, a transaction's number or a moment
-abbrev pub number_of : List ℕ → Result ℕ ScriptCause
-number_of word = number_within 19 0 (2 ^ 63 - 1) word
+number_within digits least most word = elim (number_spelled word) [ None ↦ Err w.Number | Some n ↦ if nat_le (length word) digits && nat_le least n && nat_le n most then Ok n else Err w.Number ]
 
 -- a user type
 abbrev pub user_type_of : List ℕ → Result ℕ ScriptCause

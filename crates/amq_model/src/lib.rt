@@ -9,6 +9,7 @@
 mod bytes;
 mod command;
 mod config;
+mod decimal;
 mod directory;
 mod history;
 mod items;
@@ -22,6 +23,7 @@ mod state;
 pub use bytes::Bytes;
 pub use command::{Command, Reply};
 pub use config::Config;
+pub use decimal::number_spelled;
 pub use directory::{Control, DataFile, DirFault, OpenFault};
 pub use history::{Answer, Step};
 pub use items::Items;

@@ -1,4 +1,3 @@
-pub mod Digits
 pub mod Extending
 pub mod Pairs
 pub mod Letters

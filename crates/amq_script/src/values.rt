@@ -1,12 +1,11 @@
 //! What a word is: a label, a number or a body.
-ghost use Rattle.std.specs.Prelude.{◌≡◌, ◌≤◌, ◌&&◌, nat_le, IsTrue, length};
+ghost use Rattle.std.specs.Prelude.{◌≡◌, ◌&&◌, nat_le};
 ghost use Rattle.std.specs.List.{list_all};
-ghost use Rattle.amq_model.specs.Names.{is_digit, value_of};
-ghost use Rattle.amq_model.specs.Script.{is_label, label_of, are_digits, number_within, number_of, user_type_of, steps_of, body_of};
+ghost use Rattle.amq_model.specs.Script.{is_label, label_of, number_within, number_of, user_type_of, steps_of, body_of};
 ghost use Rattle.amq_script.specs.Faults.{Reads};
 
 use crate::faults::LineFault;
-use amq_model::{Bytes, Name, ScriptCause};
+use amq_model::{Bytes, Name, ScriptCause, number_spelled};
 use hex::FromHexError;
 use std::alloc::Global;
 
@@ -45,7 +44,7 @@ fn all_letters(word: &[u8]) -> bool
 pub fn number(word: &[u8]) -> Result<u64, ScriptCause>
     ensures { result ≡ number_of word.now }
 {
-    number_within(19, 0, i64::MAX as u64, word)
+    number_spelled(word).ok_or(ScriptCause::Number)
 }
 
 /// A user type.
@@ -65,44 +64,12 @@ pub fn steps(word: &[u8]) -> Result<u64, ScriptCause>
 
 /// A number of at most so many digits, in this range.
 fn number_within(digits: usize, least: u64, most: u64, word: &[u8]) -> Result<u64, ScriptCause>
-    requires { digits ≤ 19 }
     ensures { result ≡ number_within digits least most word.now }
 {
-    if !are_digits(digits, word) {
-        return Err(ScriptCause::Number);
+    match number_spelled(word) {
+        Some(value) if word.len() <= digits && value >= least && value <= most => Ok(value),
+        _ => Err(ScriptCause::Number),
     }
-    let value = value_of(word);
-    if value < least || value > most {
-        return Err(ScriptCause::Number);
-    }
-    Ok(value)
-}
-
-/// Whether the word is so many decimal digits at most, and at least one.
-fn are_digits(most: usize, word: &[u8]) -> bool
-    ensures { result ≡ are_digits most word.now }
-{
-    !word.is_empty() && word.len() <= most && all_digits(word)
-}
-
-/// Whether each byte is a decimal digit.
-fn all_digits(word: &[u8]) -> bool
-    ensures { result ≡ list_all is_digit word.now }
-{
-    word.iter().all(|byte| byte.is_ascii_digit())
-}
-
-/// The number that at most 19 digits spell.
-fn value_of(digits: &[u8]) -> u64
-    requires digits { IsTrue (list_all is_digit digits.now) }
-    requires few { length digits.now ≤ 19 }
-    ensures { result ≡ value_of digits.now }
-{
-    let mut value = 0;
-    for digit in digits {
-        value = value * 10 + u64::from(*digit - b'0');
-    }
-    value
 }
 
 /// A body: a dash for no bytes, or hexadecimal digits.

@@ -1,6 +1,6 @@
 use Rattle.std.proofs.Common.{arith}
-use Rattle.amq_cli.proofs.Digits.{digit_at, fits}
-use Rattle.amq_cli.proofs.words.value_of.Goals as goal
+use Rattle.amq_model.proofs.Digits.{digit_at, fits}
+use Rattle.amq_model.proofs.decimal.value_of.Goals as goal
 
 pub overflow_mul-value : goal.overflow_mul-value
 overflow_mul-value c =

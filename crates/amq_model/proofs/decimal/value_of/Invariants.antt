@@ -1,6 +1,6 @@
 use Rattle.std.proofs.Common.{◌≡◌, ◌<◌, ◌^◌, take}
 use Rattle.amq_model.specs.Names.{value_of}
-use Rattle.amq_cli.proofs.words.value_of.Given as goal
+use Rattle.amq_model.proofs.decimal.value_of.Given as goal
 
 abbrev pub invariant-loop-digit : goal.invariant-loop-digit
 invariant-loop-digit l = record {
