@@ -22,7 +22,7 @@ use crate::parts::{check_ids, join, sort_by_id};
 use crate::{LoadFault, Loaded};
 use amq_io::{Disk, FileInfo, faults};
 use amq_model::{Items, LoadState, NoMemory};
-use amq_state::Loading;
+use amq_state::{Loading, Summary};
 use std::alloc::Global;
 
 /// The length of a data file's header, in bytes.
@@ -86,16 +86,18 @@ fn loaded(alloc: Global, infos: &[FileInfo], parts: Vec<Part>) -> Result<Loaded,
     let highest_file = highest_number(&parts, infos);
     let (files, records) = join(alloc, parts)?;
     let loading = Loading::of_records(alloc, records);
-    let state = loading.state()?;
-    let live = loading.live_ids()?;
-    let open_txs = loading.open_txs()?;
-    let highest_tx = loading.highest_tx();
+    let Summary {
+        state,
+        live,
+        open_txs,
+        highest_tx,
+    } = loading.summary()?;
     Ok(Loaded {
         files: Items::of(files),
         base: Items::of(loading.into_records()),
         state,
-        live: Items::of(live),
-        open_txs: Items::of(open_txs),
+        live,
+        open_txs,
         highest_tx,
         highest_file,
         control: None,

@@ -1,5 +1,5 @@
 -- Lists of records that are borrowed or owned: one more, the last taken away, from the back.
-use Rattle.std.proofs.Common.{◌≡◌, ℕ, ◌+◌, ◌<◌, Bool, false, cond, List, [], ◌∷◌, ◌++◌, length, take, drop, get_or, map, Option, Some, None, refl, sym, ap, ◌∙◌, append_assoc}
+use Rattle.std.proofs.Common.{◌≡◌, ℕ, ◌+◌, ◌<◌, Bool, false, cond, List, [], ◌∷◌, ◌++◌, length, drop, get_or, Option, Some, None, refl, sym, ap, ◌∙◌, append_assoc}
 use Rattle.std.specs.Prelude.{reverse}
 use Rattle.std.specs.List.{cons_option, filter_map}
 use Rattle.std.specs.Option.{option_to_list}
@@ -17,7 +17,7 @@ use Rattle.amq_model.specs.Records.{brief_of}
 use Rattle.amq_model.specs.Effect.{entry_of}
 use Rattle.amq_state.specs.Backward.{standing}
 use Rattle.amq_state.specs.Held.{held}
-use Rattle.amq_state.proofs.Lists.{one_found, one_taken, one_dropped}
+use Rattle.amq_state.proofs.Lists.{one_found, one_dropped}
 
 -- what is found among them and one more
 pub found_one_more : {Y : Type 0} (h : Placed → Option Y) (cs : List (Cow Placed)) (c : Cow Placed) (old new : List Y) → old ≡ filter_map h (held cs) → new ≡ old ++ option_to_list (h (cow_value c)) → new ≡ filter_map h (held (cs ++ c ∷ []))
@@ -32,16 +32,6 @@ popped old new c behind all is before =
 
 pub held_place : (cs : List (Cow Placed)) (i : ℕ) (c : Cow Placed) → i < length cs → c ≡ get_or cs i c → drop i (held cs) ≡ cow_value c ∷ drop (i + 1) (held cs)
 held_place cs i c lt is = drop-map cow_value i cs ∙ ap held (one_dropped cs i c lt is) ∙ ap (λ (ps : List Placed). cow_value c ∷ ps) (sym (drop-map cow_value (i + 1) cs))
-
--- the ids among them
-pub ids_more : (cs : List (Cow Placed)) (i : ℕ) (c : Cow Placed) (old new : List ℕ) → i < length cs → c ≡ get_or cs i c → old ≡ map (λ e. e.id) (filter_map entry_of (held (take i cs))) → new ≡ old ++ map (λ e. e.id) (option_to_list (entry_of (cow_value c)))
-    → new ≡ map (λ e. e.id) (filter_map entry_of (held (take (i + 1) cs)))
-ids_more cs i c old new lt is before now =
-    let ids : List Entry → List ℕ = λ es. map (λ (e : Entry). e.id) es in
-    let found : List Entry = filter_map entry_of (held (take i cs)) in
-    let one : List Entry = option_to_list (entry_of (cow_value c)) in
-    now ∙ ap (λ (ns : List ℕ). ns ++ ids one) before ∙ sym (map-append (λ (e : Entry). e.id) found one)
-    ∙ ap ids (found_one_more entry_of (take i cs) c found (found ++ one) refl refl) ∙ ap (λ (ds : List (Cow Placed)). ids (filter_map entry_of (held ds))) (sym (one_taken cs i c lt is))
 
 -- ---- the other way round
 

@@ -108,12 +108,11 @@ last_more tx xs i x old new last lt is before now =
     ap (last_of tx (drop (i + 1) (numbered xs))) now ∙ ap (λ (ys : List (ℕ × List ℕ)). last_of tx ys (bytes_or_none old)) (sym (one_numbered xs i x lt is)) ∙ before
 
 -- the highest number
-pub highest_more : (l : List Placed) (i : ℕ) (p : Placed) (old new : ℕ) → i < length l → p ≡ get_or l i p → old ≡ highest_of (take i l) → new ≡ max old (unwrap_or (number_of p.rec) 0) → new ≡ highest_of (take (i + 1) l)
-highest_more l i p old new lt is before now =
-    now ∙ ap (λ (n : ℕ). max n (unwrap_or (number_of p.rec) 0)) before ∙ by (number_of p.rec)
-    ∙ ap (fold max (highest_of (take i l))) (sym (one_found (λ p. number_of p.rec) p))
-    ∙ sym (fold-append max 0 (filter_map (λ p. number_of p.rec) (take i l)) (filter_map (λ p. number_of p.rec) (p ∷ [])))
-    ∙ ap (fold max 0) (sym (filter_map-append (λ p. number_of p.rec) (take i l) (p ∷ []))) ∙ ap highest_of (sym (one_taken l i p lt is)) where
-      by : (o : Option ℕ) → max (highest_of (take i l)) (unwrap_or o 0) ≡ fold max (highest_of (take i l)) (option_to_list o)
+pub highest_grows : (l : List Placed) (p : Placed) → highest_of (l ++ p ∷ []) ≡ max (highest_of l) (unwrap_or (number_of p.rec) 0)
+highest_grows l p =
+    ap (fold max 0) (filter_map-append (λ p. number_of p.rec) l (p ∷ []))
+    ∙ fold-append max 0 (filter_map (λ p. number_of p.rec) l) (filter_map (λ p. number_of p.rec) (p ∷ []))
+    ∙ ap (fold max (highest_of l)) (one_found (λ p. number_of p.rec) p) ∙ by (number_of p.rec) where
+      by : (o : Option ℕ) → fold max (highest_of l) (option_to_list o) ≡ max (highest_of l) (unwrap_or o 0)
       by None = omega arith
       by (Some n) = refl

@@ -1,8 +1,9 @@
 -- Tables of open transactions: what a change of one leaves of the others.
 use Rattle.std.proofs.Common.{◌≡◌, ℕ, ◌+◌, Bool, true, false, cond, eqb, List, [], ◌∷◌, ◌++◌, Option, Some, refl, sym, ap, ◌∙◌, arith}
+use Rattle.std.specs.Prelude.{max}
 use Rattle.std.specs.Option.{unwrap_or}
 use Rattle.std.specs.Ordering.{nat_cmp}
-use Rattle.std.specs.BTreeMap.{BTreeMap, get, is_at}
+use Rattle.std.specs.BTreeMap.{get, is_at}
 use Rattle.std.specs.Cow.{cow_value}
 use Rattle.std.specs.declared.borrow.Cow.{Cow}
 use Rattle.std.proofs.lemmas.Bool.{eqb-true}
@@ -12,12 +13,14 @@ use Rattle.amq_model.specs.declared.record.Placed.{Placed}
 use Rattle.amq_model.specs.declared.record.Brief.{Brief}
 use Rattle.amq_model.specs.Records.{brief_of}
 use Rattle.amq_model.specs.Effect.{in_effect}
+use Rattle.amq_model.specs.Answers.{number_of}
 use Rattle.amq_model.proofs.AscendingLaws.{is_here}
 use Rattle.amq_model.proofs.EffectGrows.{effect_grows}
-use Rattle.amq_state.specs.declared.turn.Turn.{Turn}
+use Rattle.amq_state.specs.declared.tables.Tables.{Tables}
 use Rattle.amq_state.specs.Held.{held}
 use Rattle.amq_state.specs.Turns.{told, count_in, turn_after, added, turn_in}
 use Rattle.amq_state.specs.Follows.{Follows}
+use Rattle.amq_state.proofs.Lists.{highest_grows}
 use Rattle.amq_state.proofs.TurnLaws.{turns_grow, effect_is}
 
 -- a record more is counted in its own file
@@ -32,13 +35,15 @@ counts_grow old new cs c file n q same is here there =
       by false e = omega (arith, there)
 
 -- tables that follow a list follow it behind one record more
-pub follows_more : (l : List Placed) (p : Placed) (effect new_effect : List (Cow Placed)) (turns new_turns : BTreeMap ℕ Turn) → Follows l effect turns
-    → held new_effect ≡ held effect ++ added p (brief_of p.rec) (λ q. told (get nat_cmp turns q)) → ((q : ℕ) → told (get nat_cmp new_turns q) ≡ turn_after p (brief_of p.rec) q (told (get nat_cmp turns q)))
-    → Follows (l ++ p ∷ []) new_effect new_turns
-follows_more l p effect new_effect turns new_turns h effect_is' turns_are = record {
-  effect = effect_is' ∙ ap (λ (ps : List Placed). ps ++ added p (brief_of p.rec) (λ q. told (get nat_cmp turns q))) h.effect
+pub follows_more : (l : List Placed) (p : Placed) (old new : Tables) → Follows l old
+    → held new.effect.items ≡ held old.effect.items ++ added p (brief_of p.rec) (λ q. told (get nat_cmp old.turns q))
+    → ((q : ℕ) → told (get nat_cmp new.turns q) ≡ turn_after p (brief_of p.rec) q (told (get nat_cmp old.turns q)))
+    → new.highest_tx ≡ max old.highest_tx (unwrap_or (number_of p.rec) 0) → Follows (l ++ p ∷ []) new
+follows_more l p old new h effect_is' turns_are highest_is = record {
+  effect = effect_is' ∙ ap (λ (ps : List Placed). ps ++ added p (brief_of p.rec) (λ q. told (get nat_cmp old.turns q))) h.effect
       ∙ ap (λ (ps : List Placed). in_effect l ++ ps) (same_added (brief_of p.rec) ∙ sym (effect_is l p)) ∙ sym (effect_grows l p);
   turns = λ q. turns_are q ∙ ap (turn_after p (brief_of p.rec) q) (h.turns q) ∙ sym (turns_grow l p q);
+  highest_tx = highest_is ∙ ap (λ (n : ℕ). max n (unwrap_or (number_of p.rec) 0)) h.highest_tx ∙ sym (highest_grows l p);
 } where
-  same_added : (b : Brief) → added p b (λ q. told (get nat_cmp turns q)) ≡ added p b (turn_in l)
+  same_added : (b : Brief) → added p b (λ q. told (get nat_cmp old.turns q)) ≡ added p b (turn_in l)
   same_added b = simp h.turns

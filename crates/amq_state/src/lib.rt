@@ -1,9 +1,9 @@
 //! What a list of records means: the live records, the transactions in doubt and the open ones.
 //!
 //! A `Loading` is fed the records of one file after the other, and keeps them. A call goes over them
-//! once: `tables` has the order of effect and the open transactions (`turn`), from which `live`,
-//! `doubts` and `open` take what is asked. `finish` moves the records into its tables, the other calls
-//! borrow them. `law` has the plain program for the same result, with `changes`, `parts` and
+//! once: `tables` has the order of effect, the open transactions (`turn`) and the highest transaction
+//! number; from these `live`, `doubts`, `open` and `numbers` take what is asked. `finish` moves the
+//! records into its tables, `summary` borrows them. `law` has the plain program for the same result, with `changes`, `parts` and
 //! `plain_live`.
 #![tactic(auto)]
 
@@ -21,4 +21,4 @@ mod tables;
 mod turn;
 
 pub use law::plain_result;
-pub use loading::{Loading, copy_spots};
+pub use loading::{Loading, Summary, copy_spots};

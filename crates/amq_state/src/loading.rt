@@ -4,16 +4,27 @@ ghost use Rattle.amq_model.specs.Ids.{live_numbers};
 ghost use Rattle.amq_model.specs.Open.{open_txs, highest_of};
 ghost use Rattle.amq_state.specs.Fed.{placed_of, AreBelow};
 
-use crate::doubts::doubts_from;
-use crate::live::live_records;
 use crate::numbers::{each_once, ids_of};
-use crate::open::{highest_number, open_from};
-use crate::owned::parts_of;
-use crate::tables::{Tables, tables_from, tables_of};
+use crate::open::open_from;
+use crate::tables::{tables_from, tables_of};
 use amq_model::{Items, LoadState, NoMemory, OpenTx, Placed};
 use amq_record::Spot;
 use std::alloc::Global;
 use std::marker::Model;
+
+/// What the records of a load mean.
+#[derive(Debug, Drop)]
+pub struct Summary {
+    /// The live records and the transactions in doubt.
+    pub state: LoadState,
+    /// The ids of the live records, each once, ascending.
+    pub live: Items<u64>,
+    /// The open transactions, by number: those with an add, update, delete or PREPARE that has no end
+    /// behind it.
+    pub open_txs: Items<OpenTx>,
+    /// The highest transaction number of a record, 0 where there is none.
+    pub highest_tx: u64,
+}
 
 /// A load under way: contracts see it as the list of the records that it was fed.
 #[derive(Debug, Drop)]
@@ -69,41 +80,25 @@ impl Loading {
         }
     }
 
-    /// The ids of the live records, each once, ascending.
-    pub fn live_ids(&self) -> Result<Vec<u64>, NoMemory>
-        ensures { IfOk result (λ v. v.items ≡ live_numbers self.now) }
+    /// What the records mean, in memory of its own: one pass over them fills the tables that all of it is
+    /// taken from.
+    pub fn summary(&self) -> Result<Summary, NoMemory>
+        ensures state { IfOk result (λ s. s.state ≡ result_of self.now) }
+        ensures live { IfOk result (λ s. s.live ≡ live_numbers self.now) }
+        ensures open_txs { IfOk result (λ s. s.open_txs ≡ open_txs self.now) }
+        ensures highest_tx { IfOk result (λ s. s.highest_tx ≡ highest_of self.now) }
     {
-        let Tables { effect, .. } = tables_of(self.alloc, &self.list)?;
-        let live = live_records(self.alloc, effect)?;
-        each_once(self.alloc, &ids_of(self.alloc, &live)?)
-    }
-
-    /// The open transactions, by number: those with an add, update, delete or PREPARE that has no end
-    /// behind it.
-    pub fn open_txs(&self) -> Result<Vec<OpenTx>, NoMemory>
-        ensures { IfOk result (λ v. v.items ≡ open_txs self.now) }
-    {
-        let Tables { turns, .. } = tables_of(self.alloc, &self.list)?;
-        open_from(self.alloc, &turns)
-    }
-
-    /// The highest transaction number of a record, 0 where there is none. Takes no memory.
-    pub fn highest_tx(&self) -> u64
-        ensures { result ≡ highest_of self.now }
-    {
-        highest_number(&self.list)
-    }
-
-    /// The live records and the transactions in doubt, in memory of their own.
-    pub fn state(&self) -> Result<LoadState, NoMemory>
-        ensures { IfOk result (λ s. s ≡ result_of self.now) }
-    {
-        let Tables { effect, turns } = tables_of(self.alloc, &self.list)?;
-        let (live, _) = parts_of(self.alloc, live_records(self.alloc, effect)?)?;
-        let in_doubt = doubts_from(self.alloc, turns)?;
-        Ok(LoadState {
+        let alloc = self.alloc;
+        let tables = tables_of(alloc, &self.list)?;
+        let highest_tx = tables.highest_tx;
+        let open_txs = open_from(alloc, &tables.turns)?;
+        let state = tables.into_state(alloc)?;
+        let live = each_once(alloc, &ids_of(alloc, state.live.as_slice())?)?;
+        Ok(Summary {
+            state,
             live: Items::of(live),
-            in_doubt: Items::of(in_doubt),
+            open_txs: Items::of(open_txs),
+            highest_tx,
         })
     }
 
@@ -120,13 +115,7 @@ impl Loading {
         ensures { IfOk result (λ s. s ≡ result_of self) }
     {
         let Loading { alloc, list } = self;
-        let Tables { effect, turns } = tables_from(alloc, list)?;
-        let (live, _) = parts_of(alloc, live_records(alloc, effect)?)?;
-        let in_doubt = doubts_from(alloc, turns)?;
-        Ok(LoadState {
-            live: Items::of(live),
-            in_doubt: Items::of(in_doubt),
-        })
+        tables_from(alloc, list)?.into_state(alloc)
     }
 }
 

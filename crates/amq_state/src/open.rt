@@ -1,5 +1,5 @@
 //! The open transactions, from the table of them.
-ghost use Rattle.std.specs.Prelude.{◌≡◌, ◌++◌, List, ℕ, Option, Some, None, if◌then◌else◌, IfOk, OnOk, ◌||◌, map, max, fold};
+ghost use Rattle.std.specs.Prelude.{◌≡◌, ◌++◌, List, ℕ, Option, Some, None, if◌then◌else◌, IfOk, OnOk, ◌||◌, map};
 ghost use Rattle.std.specs.List.{filter_map, list_any};
 ghost use Rattle.std.specs.Option.{option_map};
 ghost use Rattle.std.specs.Ordering.{nat_cmp};
@@ -7,8 +7,7 @@ ghost use Rattle.std.specs.BTreeMap.{get, IsOrdered};
 ghost use Rattle.amq_model.specs.declared.record.Placed.{Placed as AnyPlaced};
 ghost use Rattle.amq_model.specs.declared.state.EntryEnd.TheVariants.{Put, Gone};
 ghost use Rattle.amq_model.specs.Effect.{deletes};
-ghost use Rattle.amq_model.specs.Answers.{number_of};
-ghost use Rattle.amq_model.specs.Open.{touched_id, touched_by, open_txs, highest_of};
+ghost use Rattle.amq_model.specs.Open.{touched_id, touched_by, open_txs};
 ghost use Rattle.amq_state.specs.Held.{held};
 ghost use Rattle.amq_state.specs.Turns.{told, turn_in};
 ghost use Rattle.amq_state.specs.Parts.{open_at, noted};
@@ -83,30 +82,5 @@ fn touch(placed: &Placed, last: &mut BTreeMap<u64, EntryEnd>) -> Result<(), NoMe
     match last.insert(id, end) {
         Ok(_) => Ok(()),
         Err(_) => Err(NoMemory),
-    }
-}
-
-/// The highest transaction number of a record, 0 where there is none.
-pub fn highest_number(list: &[Placed]) -> u64
-    ensures { result ≡ highest_of list.now }
-{
-    let mut highest = 0;
-    for placed in list {
-        highest = highest.max(number(placed).unwrap_or(0));
-    }
-    highest
-}
-
-/// The record's transaction number.
-fn number(placed: &Placed) -> Option<u64>
-    ensures { result ≡ number_of placed.now.rec }
-{
-    match placed.rec.brief() {
-        Brief::Put { .. } | Brief::Kill { .. } => None,
-        Brief::PutTx { tx, .. }
-        | Brief::KillTx { tx, .. }
-        | Brief::Prepare { tx, .. }
-        | Brief::Commit { tx, .. }
-        | Brief::Rollback { tx } => Some(tx),
     }
 }

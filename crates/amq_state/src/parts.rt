@@ -1,8 +1,23 @@
 //! What one record is to an id or a transaction.
 ghost use Rattle.std.specs.Prelude.{◌≡◌, IfOk};
+ghost use Rattle.amq_model.specs.Answers.{number_of};
 ghost use Rattle.amq_model.specs.Effect.{ends, changes, entry_of, removal_of};
 
-use amq_model::{Entry, EntryKind, NoMemory, Placed, Record, Removal};
+use amq_model::{Brief, Entry, EntryKind, NoMemory, Placed, Record, Removal};
+
+/// The record's transaction number.
+pub fn transaction_number(placed: &Placed) -> Option<u64>
+    ensures { result ≡ number_of placed.now.rec }
+{
+    match placed.rec.brief() {
+        Brief::Put { .. } | Brief::Kill { .. } => None,
+        Brief::PutTx { tx, .. }
+        | Brief::KillTx { tx, .. }
+        | Brief::Prepare { tx, .. }
+        | Brief::Commit { tx, .. }
+        | Brief::Rollback { tx } => Some(tx),
+    }
+}
 
 /// Whether the record ends transaction `tx`.
 pub fn ends_transaction(tx: u64, placed: &Placed) -> bool

@@ -1,29 +1,38 @@
 //! The tables that one pass over a list of records fills.
-ghost use Rattle.std.specs.Prelude.{◌≡◌, ◌++◌, ◌∷◌, ◌==◌, ℕ, [], Some, None, if◌then◌else◌, IfOk, OnOk};
+ghost use Rattle.std.specs.Prelude.{◌≡◌, ◌++◌, ◌∷◌, ◌==◌, List, ℕ, [], Some, None, if◌then◌else◌, max, unwrap_or, IfOk, OnOk};
 ghost use Rattle.std.specs.Ordering.{nat_cmp};
 ghost use Rattle.std.specs.BTreeMap.{get};
 ghost use Rattle.std.specs.Cow.{cow_value};
+ghost use Rattle.amq_model.specs.declared.record.Placed.{Placed as AnyPlaced};
 ghost use Rattle.amq_model.specs.Records.{brief_of};
+ghost use Rattle.amq_model.specs.Answers.{number_of};
+ghost use Rattle.amq_model.specs.Effect.{result_of};
 ghost use Rattle.amq_state.specs.Held.{held};
 ghost use Rattle.amq_state.specs.Turns.{told, begun, none_open, with_change, with_prepare, turn_after, added, count_in};
 ghost use Rattle.amq_state.specs.Follows.{Follows};
 
+use crate::doubts::doubts_from;
+use crate::live::live_records;
+use crate::owned::parts_of;
+use crate::parts::transaction_number;
 use crate::turn::Turn;
-use amq_model::{Brief, NoMemory, Placed};
+use amq_model::{Brief, Items, LoadState, NoMemory, Placed};
 use std::alloc::Global;
 use std::borrow::Cow;
 use std::collections::BTreeMap;
 
-/// The records in order of effect, and the open transactions by number.
+/// The records in order of effect, the open transactions by number, and the highest transaction number,
+/// 0 where there is none.
 #[derive(Drop)]
 pub struct Tables<'a> {
     pub effect: Vec<Cow<'a, Placed>>,
     pub turns: BTreeMap<u64, Turn<'a>>,
+    pub highest_tx: u64,
 }
 
 /// The tables of a list, whose records are borrowed.
 pub fn tables_of<'a>(alloc: Global, list: &'a [Placed]) -> Result<Tables<'a>, NoMemory>
-    ensures { IfOk result (λ t. Follows list.now t.effect.items t.turns) }
+    ensures { IfOk result (Follows list.now) }
 {
     let mut tables = Tables::new(alloc);
     for placed in list {
@@ -34,7 +43,7 @@ pub fn tables_of<'a>(alloc: Global, list: &'a [Placed]) -> Result<Tables<'a>, No
 
 /// The tables of a list, whose records are moved into them.
 pub fn tables_from<'a>(alloc: Global, list: Vec<Placed>) -> Result<Tables<'a>, NoMemory>
-    ensures { IfOk result (λ t. Follows list.items t.effect.items t.turns) }
+    ensures { IfOk result (Follows list.items) }
 {
     let mut tables = Tables::new(alloc);
     for placed in list {
@@ -46,19 +55,39 @@ pub fn tables_from<'a>(alloc: Global, list: Vec<Placed>) -> Result<Tables<'a>, N
 impl<'a> Tables<'a> {
     /// The tables of no record.
     fn new(alloc: Global) -> Tables<'a>
-        ensures { Follows [] result.effect.items result.turns }
+        ensures { Follows [] result }
     {
         Tables {
             effect: Vec::new(alloc),
             turns: BTreeMap::new(alloc),
+            highest_tx: 0,
         }
+    }
+
+    /// The live records and the transactions in doubt, whose records are moved there where the tables own
+    /// them.
+    pub fn into_state(self, alloc: Global) -> Result<LoadState, NoMemory>
+        ensures { IfOk result (λ s. (l : List AnyPlaced) → Follows l self.entry → s ≡ result_of l) }
+    {
+        let Tables { effect, turns, .. } = self;
+        let (live, _) = parts_of(alloc, live_records(alloc, effect)?)?;
+        let in_doubt = doubts_from(alloc, turns)?;
+        Ok(LoadState {
+            live: Items::of(live),
+            in_doubt: Items::of(in_doubt),
+        })
     }
 
     /// Takes in the record behind those of the tables.
     fn take_in(&mut self, alloc: Global, placed: Cow<'a, Placed>) -> Result<(), NoMemory>
         ensures effect { OnOk result (held self.new.effect.items ≡ held self.old.effect.items ++ added (cow_value placed.entry) (brief_of (cow_value placed.entry).rec) (λ q. told (get nat_cmp self.old.turns q))) }
         ensures turns { OnOk result ((q : ℕ) → told (get nat_cmp self.new.turns q) ≡ turn_after (cow_value placed.entry) (brief_of (cow_value placed.entry).rec) q (told (get nat_cmp self.old.turns q))) }
+        ensures highest_tx { OnOk result (self.new.highest_tx
+            ≡ max self.old.highest_tx (unwrap_or (number_of (cow_value placed.entry).rec) 0)) }
     {
+        self.highest_tx = self
+            .highest_tx
+            .max(transaction_number(&placed).unwrap_or(0));
         match placed.rec.brief() {
             Brief::Put { .. } | Brief::Kill { .. } => push(&mut self.effect, placed),
             Brief::PutTx { tx, .. } | Brief::KillTx { tx, .. } => {

@@ -150,9 +150,10 @@ fn a_commit_counts_its_own_file(rt: &impl Abort, alloc: Global) -> Result<(), Fa
         at(49, RecordRef::Commit { tx: 5, count: 1 }),
     ];
     let loading = loaded(alloc, &first, &second, &[])?;
-    assert_eq!(rt; loading.live_ids()?.as_slice(), [3, 4].as_slice());
-    assert!(rt; loading.open_txs()?.is_empty());
-    assert_eq!(rt; loading.highest_tx(), 5);
+    let summary = loading.summary()?;
+    assert_eq!(rt; summary.live.as_slice(), [3, 4].as_slice());
+    assert!(rt; summary.open_txs.is_empty());
+    assert_eq!(rt; summary.highest_tx, 5);
     let live = [ADDED_3, (EntryKind::Add, 4, b"yo".as_slice())];
     has_live(rt, "counts its own file", &loading.finish()?, &live);
     Ok(())
@@ -236,7 +237,8 @@ fn a_number_prepared_again(rt: &impl Abort, alloc: Global) -> Result<(), Fail> {
         ),
     ];
     let loading = loaded(alloc, &file, &[], &[])?;
-    let open = loading.open_txs()?;
+    let summary = loading.summary()?;
+    let open = summary.open_txs.as_slice();
     assert_eq!(rt; open.len(), 2);
     assert_eq!(rt; open[0].tx, 5);
     assert!(rt; open[0].prepared);
@@ -486,12 +488,13 @@ fn same_result(
     loading: Loading,
     plain: LoadState,
 ) -> Result<(), Fail> {
-    let live_ids = loading.live_ids()?;
+    let summary = loading.summary()?;
     let ids = ids_of(alloc, &plain)?;
-    assert_eq!(rt; live_ids.as_slice(), ids.as_slice(), "{items:?}");
-    let open = loading.open_txs()?;
+    assert_eq!(rt; summary.live.as_slice(), ids.as_slice(), "{items:?}");
+    let open = summary.open_txs.as_slice();
     let prepared = open.iter().filter(|open| open.prepared).count();
     assert_eq!(rt; prepared, plain.in_doubt.len(), "{items:?}");
+    assert_eq!(rt; summary.state, plain, "{items:?}");
     assert_eq!(rt; loading.finish()?, plain, "{items:?}");
     Ok(())
 }

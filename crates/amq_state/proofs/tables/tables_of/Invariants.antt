@@ -3,4 +3,4 @@ use Rattle.amq_state.specs.Follows.{Follows}
 use Rattle.amq_state.proofs.tables.tables_of.Given as goal
 
 abbrev pub invariant-loop-placed : goal.invariant-loop-placed
-invariant-loop-placed l = Follows (take l.placed-index l.list) l.tables.effect.items l.tables.turns
+invariant-loop-placed l = Follows (take l.placed-index l.list) l.tables
