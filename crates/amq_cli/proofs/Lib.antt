@@ -3,6 +3,7 @@ pub mod Playing
 pub mod Owing
 pub mod Answering
 pub mod Ending
+pub mod Lines
 pub mod Running
 pub mod Reporting
 pub mod Outputs

@@ -6,7 +6,6 @@ pub mod Output
 pub mod Replay
 pub mod Playing
 pub mod Labelled
-pub mod LineAnswers
 pub mod Script
 pub mod Offline
 pub mod Owed

@@ -48,12 +48,12 @@ pub record GivesCommand {D : Type 0} (past : D → Option Past) (faults : D → 
   pub continues : Continues past faults result old new
 
 -- What answering a line promises: behind lines that were answered it is answered so, and each label stands for the number that it has then.
-pub record AnswersLine {D T : Type 0} (past : D → Option Past) (faults : D → Faults) (line : Line) (answer_of : T → Option Answer) (labels labels' : List ℕ → ℕ) (number number' : ℕ) (result : Result T Refusal) (old new : EngineOf D Kept) : Type 0 where
+pub record AnswersLine {D : Type 0} (past : D → Option Past) (faults : D → Faults) (line : Line) (labels labels' : List ℕ → ℕ) (number number' : ℕ) (result : Result Answer Refusal) (old new : EngineOf D Kept) : Type 0 where
   pub played :
       (answered : List Answered)
       → AreNumbersOf labels answered
       → IsPlaying old.config.buffer_timeout answered number old
-      → IfOk result (λ answer. IsPlaying old.config.buffer_timeout (answered ++ (line, answer_of answer) ∷ []) number' new × AreNumbersOf labels' (answered ++ (line, answer_of answer) ∷ []))
+      → IfOk result (λ answer. IsPlaying old.config.buffer_timeout (answered ++ (line, Some answer) ∷ []) number' new × AreNumbersOf labels' (answered ++ (line, Some answer) ∷ []))
   pub kept : OnErr result (HasNoStep old.durable old.appended (lists_of old.chronicle) (lists_of new.chronicle))
   pub next : number' ≤ number + 1
   pub continues : Continues past faults result old new

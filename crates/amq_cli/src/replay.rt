@@ -1,10 +1,8 @@
 //! Running the lines of a script on a journal.
-ghost use Rattle.std.specs.Prelude.{◌≡◌, ◌+◌, ◌-◌, ◌^◌, ◌<◌, ◌≤◌, ◌++◌, [], length, All, IsTrue, None, Some, Err, IfOk};
-ghost use Rattle.std.specs.Vec.{vec_capacity};
+ghost use Rattle.std.specs.Prelude.{◌≡◌, ◌-◌, ◌^◌, ◌<◌, [], All, IsTrue, None, Some, Err};
 ghost use Rattle.amq_engine.specs.Engine.{is_noted};
-ghost use Rattle.amq_cli.specs.Replay.{with_number, begun_number, is_begin, line_of, is_built};
+ghost use Rattle.amq_cli.specs.Replay.{with_number, begun_number, is_begin, is_built};
 ghost use Rattle.amq_cli.specs.Labelled.{number_in};
-ghost use Rattle.amq_cli.specs.LineAnswers.{answer_in, text_in};
 ghost use Rattle.amq_cli.specs.Playing.{HasPlayed};
 ghost use Rattle.amq_cli.specs.Replaying.{GivesCommand, AnswersLine, PlaysLine, Replays};
 
@@ -115,7 +113,7 @@ fn give_labelled<D: Disk>(
 ) -> Result<Answer, Refusal>
     requires open { engine.old.closed ≡ None }
     requires few { number.old < 2 ^ 64 - 1 }
-    ensures answers { AnswersLine D.past D.faults (Line.Labelled label.now command) Some
+    ensures answers { AnswersLine D.past D.faults (Line.Labelled label.now command)
         (number_in labels.old) (number_in labels.new) number.old number.new result
         engine.old engine.new }
 {
@@ -130,70 +128,11 @@ fn give_labelled<D: Disk>(
     Ok(answer)
 }
 
-/// What a line was answered: its command or tick, or the number that its label is bound to.
-#[derive(Clone, Copy, Debug, PartialEq, Eq)]
-enum LineAnswer {
-    Answered(Answer),
-    Bound(u64),
-}
-
-/// What a line is answered. A refusal that isn't an answer ends the replay.
-fn answer_line<D: Disk>(
-    engine: &mut Engine<D, Kept>,
-    labels: &mut Labels,
-    number: &mut u64,
-    line: Line,
-) -> Result<LineAnswer, Refusal>
-    requires built { IsTrue (is_built line) }
-    requires open { engine.old.closed ≡ None }
-    requires few { number.old < 2 ^ 64 - 1 }
-    ensures answers { AnswersLine D.past D.faults line answer_in
-        (number_in labels.old) (number_in labels.new) number.old number.new result
-        engine.old engine.new }
-    ensures text { IfOk result (λ answer. text_in answer ≡ line_of (line, answer_in answer)) }
-{
-    match line {
-        Line::Plain(command) => match give(engine, number, command) {
-            Ok(answer) => Ok(LineAnswer::Answered(answer)),
-            Err(refusal) => Err(refusal),
-        },
-        Line::Labelled { label, command } => {
-            match give_labelled(engine, labels, number, &label, command) {
-                Ok(answer) => Ok(LineAnswer::Answered(answer)),
-                Err(refusal) => Err(refusal),
-            }
-        }
-        Line::Bind { label, tx } => {
-            if labels.reserve(&label).is_err() {
-                return Err(Refusal::NoMemory);
-            }
-            labels.set(&label, tx);
-            Ok(LineAnswer::Bound(tx))
-        }
-        Line::Tick(now) => match engine.tick(now) {
-            Ok(count) => Ok(LineAnswer::Answered(Answer::Done(Reply::Durable { count }))),
-            Err(refusal) => Err(refusal),
-        },
-        _ => unreachable!(),
-    }
-}
-
-/// Appends the line of text for what a line was answered: the text has room for the longest one.
-fn push_line_answer(text: &mut Vec<u8>, answer: &LineAnswer)
-    requires room { length text.old.items + LONGEST_LINE ≤ vec_capacity text.old }
-    ensures { text.new.items ≡ text.old.items ++ text_in answer.now }
-{
-    let pushed = match answer {
-        LineAnswer::Answered(answer) => push_answer(text, answer),
-        LineAnswer::Bound(tx) => push_bound(text, *tx),
-    };
-    pushed.unwrap();
-}
-
 /// Answers a line, and writes the line of text for it.
 ///
-/// A disk call that fails ends the replay, with the line of that refusal; want of memory ends it
-/// without one. A line is answered only once its text has room, so that no answer goes without it.
+/// A refusal that isn't an answer ends the replay: with its line where a disk call failed, without one
+/// for want of memory. A line is answered only once its text has room, so that no answer goes without
+/// it.
 fn play_line<D: Disk>(
     engine: &mut Engine<D, Kept>,
     labels: &mut Labels,
@@ -210,13 +149,30 @@ fn play_line<D: Disk>(
     if text.reserve(LONGEST_LINE).is_err() {
         return Err(Refusal::NoMemory);
     }
-    match answer_line(engine, labels, number, line) {
+    let answered = match line {
+        Line::Plain(command) => give(engine, number, command),
+        Line::Labelled { label, command } => give_labelled(engine, labels, number, &label, command),
+        Line::Bind { label, tx } => {
+            if labels.reserve(&label).is_err() {
+                return Err(Refusal::NoMemory);
+            }
+            labels.set(&label, tx);
+            push_bound(text, tx).unwrap();
+            return Ok(());
+        }
+        Line::Tick(now) => match engine.tick(now) {
+            Ok(count) => Ok(Answer::Done(Reply::Durable { count })),
+            Err(refusal) => Err(refusal),
+        },
+        _ => unreachable!(),
+    };
+    match answered {
         Ok(answer) => {
-            push_line_answer(text, &answer);
+            push_answer(text, &answer).unwrap();
             Ok(())
         }
         Err(refusal) => {
-            push_line_answer(text, &LineAnswer::Answered(Answer::Refused(refusal)));
+            push_answer(text, &Answer::Refused(refusal)).unwrap();
             Err(refusal)
         }
     }

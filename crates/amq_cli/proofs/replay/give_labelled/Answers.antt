@@ -5,14 +5,12 @@ use Rattle.amq_model.specs.declared.command.Command.{Command}
 use Rattle.amq_model.specs.declared.command.Command.TheVariants.{Begin}
 use Rattle.amq_model.specs.declared.history.Answer.{Answer}
 use Rattle.amq_model.specs.declared.script.Line.TheVariants.{Labelled}
-use Rattle.amq_engine.proofs.GoingOn.{goes_still}
 use Rattle.amq_cli.specs.Labelled.{number_in}
 use Rattle.amq_cli.specs.Replay.{begun_number, with_number}
 use Rattle.amq_cli.specs.Playing.{IsPlaying, AreNumbersOf}
 use Rattle.amq_cli.proofs.Playing.{labels_behind}
 use Rattle.amq_cli.proofs.Answering.{not_begun, begins, with_each}
-use Rattle.amq_cli.specs.Offline.{lists_of}
-use Rattle.amq_cli.proofs.DataFileLemmas.{so_far_unfinished}
+use Rattle.amq_cli.proofs.Lines.{unasked}
 use Rattle.amq_cli.proofs.replay.give_labelled.Goals as goal
 
 pub returns-then-not-is_begin : goal.returns-then-not-is_begin
@@ -35,18 +33,7 @@ returns-then-is_err g c = record {
     played = search rules;
     kept = search rules;
     next = search rules;
-    continues = record {
-      last = search rules;
-      closes = search rules;
-      unclosed = search rules;
-      same = search rules;
-      cause = search rules;
-      later = search rules;
-      goes_on = goes_still (g.D.Disk.past c.args.engine.now.disk);
-      first = search rules;
-      stands = search rules;
-      files = λ done first was. (let e = c.args.engine.now in so_far_unfinished done e.config e.file e.end e.highest (lists_of e.chronicle) first (g.D.Disk.past e.disk) was);
-    };
+    continues = unasked g.D.Disk.past g.D.Disk.faults Answer c.args.engine.now;
   };
 }
 
