@@ -114,7 +114,7 @@ files_asked done config history old mid new f asks =
 pub files_ended : (status outcome : Status) (config : Config) (steps : List Step) (old new : Option Past) (sink sink' : ℕ) → IsEnd status outcome sink sink' → HasRunFiles outcome config steps old new → HasRunFiles status config steps old new
 files_ended status outcome config steps old new sink sink' (inl same) f = subst (λ (s : Status). HasRunFiles s config steps old new) (sym same) f
 files_ended status outcome config steps old new sink sink' (inr (inl short)) (inl f) = inl (subst (λ (s : Status). HasFilesOf (is_done s) config (history_of steps) old new) (sym short) (files_unfinished (is_done outcome) config (history_of steps) old new f))
-files_ended status outcome config steps old new sink sink' (inr (inl short)) (inr synced) = inr (ap is_done short, synced.1)
+files_ended status outcome config steps old new sink sink' (inr (inl short)) (inr synced) = inr (ap is_done short, synced.1, synced.2)
 files_ended status outcome config steps old new sink sink' (inr (inr failed)) f =
     subst (λ (s : Status). HasRunFiles s config steps old new) (sym failed.0) (subst (λ (s : Status). HasRunFiles s config steps old new) failed.1 f)
 

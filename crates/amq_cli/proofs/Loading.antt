@@ -67,10 +67,13 @@ loads_to : (wanted : ℕ) (base : List Placed) (steps : List Step) (state : Load
 loads_to wanted base steps state s j is =
     let d : IsDirectory wanted 0 j.files s = record { ascending = j.is.ascending; there = are_there wanted 0 s j.files j.is.there; only = j.is.only; uncontrolled = j.is.uncontrolled } in
     let read = directory_read wanted 0 j.files s is.image is.reading d in
+    let found = read_uncontrolled (finite.entries is.image) is.loads.control is.loads.records read.1 is.loads.read in
+    let same : is.loads.records ≡ base ++ history_of steps = same_joined (data_files (finite.entries is.image) None) is.loads.records (records_of j.files) found.joined read.2 ∙ j.records in
     record {
       image = is.image;
       reading = is.reading;
       loads = is.loads;
+      records = subst (λ (l : List Placed). IsRead (finite.entries is.image) None l) same found;
       is = state_of wanted state (records_of j.files) s is read.1 read.2 ∙ ap result_of j.records;
     }
 

@@ -13,7 +13,7 @@ use Rattle.amq_model.specs.declared.state.LoadState.{LoadState}
 use Rattle.amq_model.specs.Answers.{history_of}
 use Rattle.amq_model.specs.Calls.{Event, Past, listing, content}
 use Rattle.amq_model.specs.LoadCalls.{AreCalls, AreFirstCalls, Makes, load_calls, AreCallsUntil}
-use Rattle.amq_model.specs.Directory.{Loads}
+use Rattle.amq_model.specs.Directory.{Loads, IsRead}
 use Rattle.amq_model.specs.Effect.{result_of}
 use Rattle.amq_model.specs.Files.{Files, Image, IsReading}
 use Rattle.amq_model.specs.Leaves.{Leaves, Told, OnlyAsks, IsThere, Syncs}
@@ -56,11 +56,12 @@ lists_of kept = record { base = kept.base; steps = kept.steps.items; receipts = 
 abbrev pub content_of : Option Past → Option Files
 content_of past = option_map (λ p. content p.start p.calls) past
 
--- it loads, to the result of the base and then the history of the steps, and this is that state
+-- it loads, its records are those of the base and then of the steps, and this is the state that they mean
 pub record LoadsTo (user_version : ℕ) (base : List Placed) (steps : List Step) (state : LoadState) (s : Files) : Type 0 where
   pub image : Image
   pub reading : IsReading s image
   pub loads : Loads (finite.entries image) user_version state
+  pub records : IsRead (finite.entries image) None (base ++ history_of steps)
   pub is : state ≡ result_of (base ++ history_of steps)
 
 -- the directory, where it is told, loads to this state
@@ -103,7 +104,7 @@ HasRunCause config lists (s.NotBuilt u.Directory) old new was now = OnlyAsks old
 HasRunCause config lists (s.FileIdsSpent highest) old new was now = HasOpenCause config (o.FileIdsSpent highest) (Some lists) old new was now
 HasRunCause config lists status old new was now = HasDiskCause status was now
 
--- What an opening leaves that was refused for this fault: the steps are the first of its rollbacks alone, each appended and each owed where it is durable; the files are as they were, or those of what it appended; and without a receipt nothing is noted.
+-- What an opening leaves that was refused for this fault: the steps are the first of its rollbacks alone, each appended and each owed where it is durable; the files are as they were, or those that it had begun; and without a receipt nothing is noted.
 pub record IsOfRefusedOpening (config : Config) (l : Lists) (old new : Option Past) (was now : Faults) (fault : OpenFault) : Type 0 where
   pub cause : HasOpenCause config fault (Some l) old new was now
   pub legal : AreLegalOfRefused l.base l.steps config
@@ -140,9 +141,9 @@ is_done s.Ok = true
 is_done s.SinkFault = true
 is_done _ = false
 
--- Which data files a run of these steps leaves, and which files it leaves alone: those of its history, all of them where all was done, and else maybe with one file more; or nothing was done but that files were made durable, as where the opening was refused at once.
+-- Which data files a run of these steps leaves, and which files it leaves alone: those of its history, all of them where all was done, and else maybe with one file more; or there is no step, and nothing was done but that files were made durable, as where the opening was refused at once.
 abbrev pub HasRunFiles : Status → Config → List Step → Option Past → Option Past → Type 0
-HasRunFiles status config steps old new = HasFilesOf (is_done status) config (history_of steps) old new ⊎ ((is_done status ≡ false) × Leaves Syncs Syncs old new)
+HasRunFiles status config steps old new = HasFilesOf (is_done status) config (history_of steps) old new ⊎ ((is_done status ≡ false) × (steps ≡ []) × Leaves Syncs Syncs old new)
 
 -- Where there is a receipt, the appends stand one behind the other from the head of the file on that has the number behind all that the directory had: each right behind the one before it where the file size allows that, else first in the file of the next number.
 abbrev pub AreInNewFiles : Config → Option Past → List Step → List Receipted → Type 0

@@ -19,7 +19,8 @@ use Rattle.amq_model.specs.Leaves.{Leaves, Syncs, IsSyncedFile}
 use Rattle.amq_header.specs.Classes.{data_name, temporary_name, temporary_number}
 use Rattle.amq_header.proofs.Made.{data_is_read, temporary_is_read, temporary_differ}
 use Rattle.amq_engine.specs.Lists.{Lists}
-use Rattle.amq_engine.specs.DataFiles.{id_and_length, data_file_at, HasSameFiles, HasFilesMade, HasId, IsNumbered, IsPreparing, IsUsedOrNew, IsRenewed, LeavesAllBut, SyncsAllBut, WorkedTo, HasFilesOf, HasFilesSoFar, HasBegunFiles, HasFailedFiles, file_of_last}
+use Rattle.amq_engine.specs.DataFiles.{id_and_length, data_file_at, HasSameFiles, HasFilesMade, HasId, IsNumbered, IsPreparing, IsUsedOrNew, IsRenewed, LeavesAllBut, SyncsAllBut, WorkedTo, HasFilesOf, HasFilesSoFar, FailedFlushed, HasBegunFiles, HasFailedFiles, file_of_last}
+use Rattle.amq_engine.specs.Opening.{NextNeedsFile}
 use Rattle.amq_engine.proofs.DataFiles.{same_made}
 use Rattle.amq_engine.proofs.Standing.{temporary_apart}
 
@@ -157,10 +158,6 @@ no_file_too_many config a b h few is = ⊎_elim (λ (le : h.most ≤ 4). omega (
 pub no_second_file_too_many : (config : Config) (a b : Option Past) (h : HasFilesOf false config (append_in 4 ∷ []) a b) → config.min_files ≤ h.files → h.most ≡ 6 → ⊥
 no_second_file_too_many config a b h few is = ⊎_elim (λ (le : h.most ≤ 5). omega (arith, le, is)) (λ (le : h.files + (h.most - h.before) ≤ config.min_files). omega (arith, le, few, is, h.begun)) h.no_more
 
--- an opening that failed at once
-pub nothing_was_done : (config : Config) (l : Lists) (old : Option Past) → Leaves Syncs Syncs old old → HasFailedFiles config l old old
-nothing_was_done config l old same = inl same
-
 -- The base has an open transaction, in file 1. So much was done: nothing, or its rollback was appended, in file 2.
 abbrev left_open : List Placed
 left_open = record { file = 1; place = 16; compact = 0; rec = r.AddTx 1 3 7 [] } ∷ []
@@ -169,7 +166,11 @@ abbrev rolls_back : Step
 rolls_back = record { seat = 0; number = 1; command = c.Rollback 1; answer = Done (Appended 0); placed = Some (append_in 2) }
 
 abbrev opened_with : List Step → ℕ → Lists
-opened_with steps durable = record { base = left_open; steps = steps; receipts = record { durable = durable; moment = 9; steps = length steps } ∷ [] }
+opened_with steps durable = record { base = left_open; steps = steps; receipts = record { durable = 0; moment = 9; steps = 0 } ∷ record { durable = durable; moment = 15; steps = length steps } ∷ [] }
+
+-- an opening that failed at once
+pub nothing_was_done : (config : Config) (old : Option Past) → Leaves Syncs Syncs old old → HasFailedFiles config (opened_with [] 0) old old
+nothing_was_done config old same = inl (refl, same)
 
 -- at least nine files are asked for; one was there, of number 1, and the disk tells nothing of them
 abbrev nine_files : Config
@@ -197,21 +198,41 @@ filled_behind_the_flush = record {
   flushed = inr (inr (refl, refl));
 }
 
--- and not before
+-- where the flush failed none was asked for
+pub none_asked_where_the_flush_failed : HasBegunFiles nine_files (opened_with (rolls_back ∷ []) 0) None None
+unfolding untold_up_to
+none_asked_where_the_flush_failed = record {
+  files = untold_up_to 2 (append_in 2 ∷ []) (omega arith) (omega arith) (omega arith);
+  flushed = inr (inl (omega arith));
+}
+
+-- and none before
 pub none_filled_before_the_flush : (a b : Option Past) (h : HasBegunFiles nine_files (opened_with (rolls_back ∷ []) 0) a b) → h.files.most ≡ 3 → ⊥
 none_filled_before_the_flush a b h is = by h.flushed where
-  by : ((length {A = Step} (rolls_back ∷ []) < length (rolled_back left_open)) × (h.files.most ≤ 2 + 1)) ⊎ (h.files.most ≤ 2) ⊎ ((length {A = Step} (rolls_back ∷ []) ≡ length (rolled_back left_open)) × (◌≡◌ {A = ℕ} 0 1)) → ⊥
-  by (inl (few, near)) = omega (arith, few)
+  by : ((length {A = Step} (rolls_back ∷ []) < length (rolled_back left_open)) × NextNeedsFile nine_files (opened_with (rolls_back ∷ []) 0) × (h.files.most ≤ 2 + 1)) ⊎ (h.files.most ≤ 2) ⊎ ((length {A = Step} (rolls_back ∷ []) ≡ length (rolled_back left_open)) × (◌≡◌ {A = ℕ} 0 1)) → ⊥
+  by (inl (few, needs, near)) = omega (arith, few)
   by (inr (inl low)) = omega (arith, low, is)
   by (inr (inr (all, counts))) = omega (arith, counts)
 
--- nor before the rollback is appended, but for the file that it may need
-pub none_filled_before_the_rollback : (a b : Option Past) (h : HasBegunFiles nine_files (opened_with [] 0) a b) → h.files.before ≡ 1 → h.files.most ≡ 4 → ⊥
+-- nor before the rollback is appended, which fits the file that was begun
+pub none_filled_before_the_rollback : (a b : Option Past) (h : HasBegunFiles nine_files (opened_with [] 0) a b) → h.files.before ≡ 1 → h.files.most ≡ 3 → ⊥
 none_filled_before_the_rollback a b h first is = by h.flushed where
-  by : ((length {A = Step} [] < length (rolled_back left_open)) × (h.files.most ≤ h.files.before + 1 + 1)) ⊎ (h.files.most ≤ h.files.before + 1) ⊎ ((length {A = Step} [] ≡ length (rolled_back left_open)) × (◌≡◌ {A = ℕ} 0 0)) → ⊥
-  by (inl (few, near)) = omega (arith, near, first, is)
+  by : ((length {A = Step} [] < length (rolled_back left_open)) × NextNeedsFile nine_files (opened_with [] 0) × (h.files.most ≤ h.files.before + 1 + 1)) ⊎ (h.files.most ≤ h.files.before + 1) ⊎ ((length {A = Step} [] ≡ length (rolled_back left_open)) × (◌≡◌ {A = ℕ} 0 0)) → ⊥
+  by (inl (few, needs, near)) = absurd cc
   by (inr (inl low)) = omega (arith, low, first, is)
   by (inr (inr (all, counts))) = let none : ◌≡◌ {A = ℕ} 0 1 = all in omega (arith, none)
+
+-- a file is asked for where the next rollback doesn't fit behind the last append
+pub one_for_the_next_rollback : (old new : Option Past) → FailedFlushed (record nine_files { file_size = 32 }) 2 2 (1 ∷ 5 ∷ []) old new (opened_with (rolls_back ∷ []) 0)
+one_for_the_next_rollback old new = inl (omega arith, refl, refl)
+
+-- and none of the least number where the last receipt doesn't count the one rollback
+pub none_uncounted : (old new : Option Past) → FailedFlushed nine_files 2 3 (1 ∷ []) old new (opened_with (rolls_back ∷ []) 0) → ⊥
+none_uncounted old new f = by f where
+  by : ((length {A = Step} (rolls_back ∷ []) < length {A = ℕ} (1 ∷ [])) × NextNeedsFile nine_files (opened_with (rolls_back ∷ []) 0) × (◌≡◌ {A = ℕ} 3 2)) ⊎ ((◌≡◌ {A = ℕ} 3 2) × WorkedTo true 1024 2 2 3 old new) ⊎ ((length {A = Step} (rolls_back ∷ []) ≡ length {A = ℕ} (1 ∷ [])) × (◌≡◌ {A = ℕ} 0 1)) → ⊥
+  by (inl (few, needs, at)) = omega (arith, at)
+  by (inr (inl (at, to))) = omega (arith, at)
+  by (inr (inr (all, counts))) = omega (arith, counts)
 
 -- a file of another name is never lost
 pub no_other_file_is_lost : (config : Config) (l : Lists) (p q : Past) (f : File) → finite.get (content p.start p.calls) (codes "notes.txt") ≡ Some f → finite.get (content q.start q.calls) (codes "notes.txt") ≡ None → HasFailedFiles config l (Some p) (Some q) → ⊥
@@ -225,7 +246,7 @@ no_other_file_is_lost config l p q f had none failed = by failed where
   now r e = subst (λ (x : Past). finite.get (content x.start x.calls) (codes "notes.txt") ≡ None) (same_Some q r e) none
 
   by : HasFailedFiles config l (Some p) (Some q) → ⊥
-  by (inl went) = lost (finite.get (content p.start p.calls) (codes "notes.txt")) (finite.get (content went.0.start went.0.calls) (codes "notes.txt")) had (now went.0 went.1) (went.2.told (codes "notes.txt"))
+  by (inl (none, went)) = lost (finite.get (content p.start p.calls) (codes "notes.txt")) (finite.get (content went.0.start went.0.calls) (codes "notes.txt")) had (now went.0 went.1) (went.2.told (codes "notes.txt"))
   by (inr begun) =
       let h = begun.files in
       let went = h.worked.works.keeps in

@@ -1,6 +1,6 @@
 -- Which data files an opening leaves, and which files it leaves alone.
 use Rattle.std.proofs.Common.{◌≡◌, ◌⊎◌, inl, inr, ⊎_elim, ℕ, ◌+◌, ◌-◌, ◌^◌, ◌<◌, ◌≤◌, Bool, true, false, cond, List, [], ◌∷◌, length, Option, None, Some, refl, sym, ap, subst, ◌∙◌, arith}
-use Rattle.std.specs.Prelude.{IsTrue, Contains, IsSome}
+use Rattle.std.specs.Prelude.{IsTrue, Contains, IsSome, ◌&&◌}
 use Rattle.std.specs.Prelude.{min}
 use Rattle.std.proofs.Common.{ltb}
 use Rattle.std.proofs.lemmas.Bool.{ltb-true, ltb-false}
@@ -49,6 +49,13 @@ rolled_to done used size h most reached x y named low is next w least = record {
     both : (n : FileName) → IsUsedOrNew used (h + 1) most n → IsPreparing h most n
     both n (inl e) = (h, omega arith, omega (arith, w.least, w.within), inl (e ∙ named))
     both n (inr p) = (p.0, omega (arith, p.1), p.2, p.3)
+
+-- a rollback that failed asked for no further file, but where it goes on to one
+pub failed_to : (moves none : Bool) (used : FileName) (size h reached : ℕ) (x y : Option Past) → used ≡ data_name h → h ≤ 2 ^ 31 - 1 → reached ≡ h → Worked false (SparesAllBut (IsUsedOrNew used (h + 1) (cond (moves && none) (h + 1) h))) size h (cond (moves && none) (h + 1) h) x y → WorkedTo true size h h reached x y ⊎ (moves ≡ true)
+failed_to true none used size h reached x y named low at w = inr refl
+failed_to false none used size h reached x y named low at w =
+    let all : Worked true (SparesAllBut (IsUsedOrNew used (h + 1) h)) size h h x y = record { last = w.last; least = w.least; within = w.within; near = w.near; all = λ d. omega (arith, w.least, w.within); works = w.works } in
+    inl (rolled_to true used size h h reached x y named low (λ d. sym at) (omega (arith, at)) all (omega (arith, at, w.least)))
 
 pub to_and_then : (done : Bool) (size f mid reached : ℕ) (x y z : Option Past) → WorkedTo true size f f mid x y → WorkedTo done size mid mid reached y z → WorkedTo done size f f reached x z
 to_and_then done size f mid reached x y z one two =
@@ -276,11 +283,11 @@ module _ (config : Config) (l : Lists) (files before reached : ℕ) (txs : List 
 
   -- behind the file of the last append it asked for none that it may not have
   pub failed_has : txs ≡ rolled_back l.base → WorkedTo false config.file_size (before + 1) (before + 1) reached b c → FailedFlushed config (before + 1) reached txs b c l → HasBegunFiles config l a c
-  failed_has same w (inl (few, at)) =
+  failed_has same w (inl (few, needs, at)) =
       let so = has w in
       record {
         files = so.0;
-        flushed = inl (subst (λ (n : ℕ). length l.steps < n) (ap length same) few, omega (arith, so.2, w.next, at, ap last (ap (λ (n : ℕ). n + 1) so.3)));
+        flushed = inl (subst (λ (n : ℕ). length l.steps < n) (ap length same) few, needs, omega (arith, so.2, w.next, at, ap last (ap (λ (n : ℕ). n + 1) so.3)));
       }
   failed_has same w (inr (inl (at, done))) =
       let all = to_unfinished config.file_size (before + 1) (before + 1) reached b c done in

@@ -41,9 +41,9 @@ use Rattle.amq_pool.specs.Pools.{PoolOf, ids_of}
 use Rattle.amq_engine.specs.declared.tail.Tail.{Tail}
 use Rattle.amq_engine.specs.Lists.{Lists, with_step}
 use Rattle.amq_engine.specs.Receipts.{IsCrashSafe}
-use Rattle.amq_engine.proofs.Receipts.{both_some}
-use Rattle.amq_engine.specs.Engine.{rolling, IsValid, passes, spent, refused, end_of_tail, with_put, placed_behind}
-use Rattle.amq_engine.specs.Opening.{EndsIn, NeedsFile}
+use Rattle.amq_engine.proofs.Receipts.{if_some, both_some}
+use Rattle.amq_engine.specs.Engine.{Stage, rolling, IsValid, passes, spent, refused, end_of_tail, with_put, placed_behind}
+use Rattle.amq_engine.specs.Opening.{EndsIn, NeedsFile, NextNeedsFile}
 use Rattle.amq_engine.proofs.History.{history-snoc}
 use Rattle.amq_engine.proofs.Recovering.{valid_safe}
 use Rattle.amq_engine.proofs.Commanding.{needs_one, valid_accepted}
@@ -144,6 +144,13 @@ spent_top true top [] low is = by (leb (2 ^ 31 - 1) top) refl is where
 last_file : (config : Config) (end first file : ℕ) (history : List Placed) → IsConfig config → passes config.file_size end (Some 18) ≡ true → EndsIn first history file end → fold (λ _ p. p.file) 0 history ≡ file
 last_file config end first file [] ranges moves ends = absurd (omega (arith, ltb-true config.file_size (end + 18) moves, ends.1, ranges.file_size_least))
 last_file config end first file (p ∷ ps) ranges moves ends = sym ends.0
+
+-- where the next rollback doesn't fit the rest of the file it needs a further one
+pub roll_needs : (stage : Stage) (past : Option Past) (moment : ℕ) (lists : Option Lists) (room : ℕ) (config : Config) (table : TxState) (pool : PoolOf) (t : Tail) → IsValid stage past moment lists room config table pool t → passes config.file_size (end_of_tail t) (Some 18) ≡ true → IfSome lists (NextNeedsFile config)
+roll_needs stage past moment lists room config table pool t v moves =
+    let p = v.sound.parts in
+    let needed : IsTrue (needs_file (history_of p.steps) config (Rollback 0)) = needs_one config table pool t p (Rollback 0) v.ranges (small_rollback config 0 v.ranges) moves in
+    if_some _ (NextNeedsFile config) lists (λ l told. subst (λ (ss : List Step). IsTrue (needs_file (history_of ss) config (Rollback 0))) (sym told.same) needed) v.sound.told
 
 -- so the next rollback needs a further file
 pub roll_spent : (past : Option Past) (moment : ℕ) (lists : Option Lists) (room : ℕ) (config : Config) (table : TxState) (pool : PoolOf) (t : Tail) (base : List Placed) (n tx : ℕ) → slice_get (rolled_back base) n ≡ Some tx → IsValid (rolling base n) past moment lists room config table pool t

@@ -1,5 +1,5 @@
 -- Which data files there are behind calls of a disk, and which files the calls leave alone.
-use Rattle.std.specs.Prelude.{◌≡◌, ◌⊎◌, ℕ, ◌+◌, ◌-◌, ◌^◌, ◌<◌, ◌≤◌, Bool, true, false, nat_le, if◌then◌else◌, fold, List, take, drop, length, Option, None, Some, IsTrue}
+use Rattle.std.specs.Prelude.{◌≡◌, ◌⊎◌, ℕ, ◌+◌, ◌-◌, ◌^◌, ◌<◌, ◌≤◌, Bool, true, false, nat_le, if◌then◌else◌, fold, List, [], take, drop, length, Option, None, Some, IsTrue}
 use Rattle.std.specs.Int.{w64, from_be_bytes}
 use Rattle.std.specs.FinMap as finite
 use Rattle.amq_model.specs.declared.config.Config.{Config}
@@ -15,7 +15,7 @@ use Rattle.amq_model.specs.Legal.{rolled_back}
 use Rattle.amq_header.specs.Classes.{data_name, temporary_name}
 use Rattle.amq_loader.specs.Loads.{is_leftover, IsTidy}
 use Rattle.amq_engine.specs.Lists.{Lists}
-use Rattle.amq_engine.specs.Opening.{HasNumbers, StandsFrom}
+use Rattle.amq_engine.specs.Opening.{HasNumbers, StandsFrom, NextNeedsFile}
 use Rattle.amq_engine.specs.Receipts.{IsLastCount}
 use Rattle.amq_engine.specs.Engine.{EngineOf, prepares}
 
@@ -124,7 +124,7 @@ pub record HasOpenedFiles (config : Config) (highest : ℕ) (old new : Option Pa
 abbrev pub file_of_last : ℕ → List Placed → ℕ
 file_of_last first history = fold (λ _ p. p.file) first history
 
--- Which data files there are behind calls from an opening on that made this history: those that there were, and those of the next numbers, as many as the history and the configuration need; where not all was done, maybe one file more is asked for, which may be there or not; the calls wrote to no file but the new ones and leftovers that were there; and where all was done no leftover is there.
+-- Which data files there are behind calls from an opening on that made this history: those that there were, and those of the next numbers, as many as the history needs, and where all was done as the configuration asks for; no more than one of these two needs, but where not all was done maybe one, which may be there or not; the calls wrote to no file but the new ones and leftovers that were there; and where all was done no leftover is there.
 pub record HasFilesOf (done : Bool) (config : Config) (history : List Placed) (old new : Option Past) : Type 0 where
   pub files : ℕ
   pub before : ℕ
@@ -147,17 +147,17 @@ pub record HasFilesSoFar (done : Bool) (config : Config) (file end highest : ℕ
   pub begun : files.before < file
   pub stands : StandsFrom config (files.before + 1) file end l
 
--- How an opening failed that had begun its first file, in calls behind that: a rollback is still owed, and the highest number is that of the last append's file; or no further file was asked for; or no rollback is owed and the last receipt counts all appends.
+-- How an opening failed that had begun its first file, in calls behind that, of which the highest number was reached: a rollback is still owed that needs a further file; or no further file was asked for; or no rollback is owed and the last receipt counts all appends.
 abbrev pub FailedFlushed : Config → ℕ → ℕ → List ℕ → Option Past → Option Past → Lists → Type 0
 FailedFlushed config first highest txs old new l =
     let last = file_of_last first (history_of l.steps) in
-    ((length l.steps < length txs) × (highest ≡ last)) ⊎ ((highest ≡ last) × WorkedTo true config.file_size first first highest old new) ⊎ ((length l.steps ≡ length txs) × IsLastCount (length (history_of l.steps)) l.receipts)
+    ((length l.steps < length txs) × NextNeedsFile config l × (highest ≡ last)) ⊎ ((highest ≡ last) × WorkedTo true config.file_size first first highest old new) ⊎ ((length l.steps ≡ length txs) × IsLastCount (length (history_of l.steps)) l.receipts)
 
--- What an opening that failed leaves where it had begun its first file: the files of what it appended. Behind that of the last append it asked for at most one more while a rollback is still owed, and then for none before the last receipt counted all appends.
+-- What an opening that failed leaves where it may have begun its first file: the files of what it appended, and further ones. Of these it asked for one where a rollback is still owed that needs it; for none else before all were appended and the last receipt counted them; and then for those of the least number.
 pub record HasBegunFiles (config : Config) (l : Lists) (old new : Option Past) : Type 0 where
   pub files : HasFilesOf false config (history_of l.steps) old new
-  pub flushed : (let last = file_of_last (files.before + 1) (history_of l.steps) in ((length l.steps < length (rolled_back l.base)) × (files.most ≤ last + 1)) ⊎ (files.most ≤ last) ⊎ ((length l.steps ≡ length (rolled_back l.base)) × IsLastCount (length (history_of l.steps)) l.receipts))
+  pub flushed : (let last = file_of_last (files.before + 1) (history_of l.steps) in ((length l.steps < length (rolled_back l.base)) × NextNeedsFile config l × (files.most ≤ last + 1)) ⊎ (files.most ≤ last) ⊎ ((length l.steps ≡ length (rolled_back l.base)) × IsLastCount (length (history_of l.steps)) l.receipts))
 
--- what an opening that failed leaves: all files with the bytes that they had, or those that it had begun
+-- what an opening that failed leaves: nothing appended and all files with the bytes that they had, or the files that it had begun
 abbrev pub HasFailedFiles : Config → Lists → Option Past → Option Past → Type 0
-HasFailedFiles config l old new = Leaves Syncs Syncs old new ⊎ HasBegunFiles config l old new
+HasFailedFiles config l old new = ((l.steps ≡ []) × Leaves Syncs Syncs old new) ⊎ HasBegunFiles config l old new

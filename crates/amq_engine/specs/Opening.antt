@@ -94,9 +94,13 @@ pub record IsFilled (config : Config) (txs : List ℕ) (history : List Placed) (
   pub enough : (config.min_files ≤ files + (highest - before)) ⊎ (highest ≡ 2 ^ 31 - 1)
   pub no_more : (highest ≡ file) ⊎ (files + (highest - before) ≤ config.min_files)
 
+-- the next rollback, right behind the last append, would end behind the file size
+abbrev pub NextNeedsFile : Config → Lists → Type 0
+NextNeedsFile config l = IsTrue (needs_file (history_of l.steps) config (Rollback 0))
+
 -- The next rollback needs a further file, and the last append stands in the one of the greatest number.
 abbrev pub NeedsFile : Config → Lists → Type 0
-NeedsFile config l = (length l.steps < length (rolled_back l.base)) × IsTrue (needs_file (history_of l.steps) config (Rollback 0)) × (fold (λ _ p. p.file) 0 (history_of l.steps) ≡ 2 ^ 31 - 1)
+NeedsFile config l = (length l.steps < length (rolled_back l.base)) × NextNeedsFile config l × (fold (λ _ p. p.file) 0 (history_of l.steps) ≡ 2 ^ 31 - 1)
 
 -- Why an opening failed: exactly the first fault of the directory, where it was only asked and nothing was noted; exactly where a file has the control file's name; exactly where the directory has no fault and the numbers of files are spent, or are when the rollbacks need a further file; for a disk call only where the count of faults rose, and then the one that failed last; or want of memory, where no disk call failed.
 abbrev pub HasOpenCause : Config → OpenFault → Option Lists → Option Past → Option Past → Faults → Faults → Type 0

@@ -1,5 +1,5 @@
 //! The rollbacks of an opening: of each transaction that was left open and isn't prepared.
-ghost use Rattle.std.specs.Prelude.{◌≡◌, ◌+◌, ◌^◌, ◌<◌, ◌≤◌, ◌++◌, ◌∷◌, ℕ, List, [], length, take, slice_get, Some, option_map, IfSome, IfErr, OnOk, OnErr, true, false};
+ghost use Rattle.std.specs.Prelude.{◌≡◌, ◌⊎◌, ◌+◌, ◌^◌, ◌<◌, ◌≤◌, ◌++◌, ◌∷◌, ℕ, List, [], length, take, slice_get, Some, option_map, IfSome, IfErr, OnOk, OnErr, true, false};
 ghost use Rattle.amq_model.specs.declared.record.Placed.{Placed};
 ghost use Rattle.amq_model.specs.declared.history.Step.{Step};
 ghost use Rattle.amq_model.specs.Answers.{history_of};
@@ -14,7 +14,7 @@ ghost use Rattle.amq_engine.specs.declared.chronicle.Receipted.{Receipted};
 ghost use Rattle.amq_engine.specs.Lists.{steps_in};
 ghost use Rattle.amq_engine.specs.Receipts.{GoesOn, StartsWith};
 ghost use Rattle.amq_engine.specs.Engine.{rolling, IsValid, end_of_tail};
-ghost use Rattle.amq_engine.specs.Opening.{EndsIn, HasRollCause, rollback_behind, rollbacks_behind};
+ghost use Rattle.amq_engine.specs.Opening.{EndsIn, HasRollCause, NextNeedsFile, rollback_behind, rollbacks_behind};
 ghost use Rattle.amq_engine.specs.Owed.{AreOwedToSteps, AreOwedAtOpening};
 
 use crate::chronicle::Chronicle;
@@ -91,6 +91,9 @@ pub fn roll_back<D: Disk, C: Chronicle>(
         (λ l. pool.new.highest ≡ file_of_last tail.old.file.id (history_of l.steps))) }
     ensures failed_few { OnErr result
         (IfSome (C.lists chronicle.new) (λ l. length l.steps < length txs.now)) }
+    ensures failed_needs { OnErr result (WorkedTo true config.now.file_size pool.old.highest
+        pool.old.highest pool.new.highest (D.past disk.old) (D.past disk.new)
+        ⊎ IfSome (C.lists chronicle.new) (NextNeedsFile config.now)) }
     ensures tidy { OnOk result (Told (D.past disk.old) IsTidy → Told (D.past disk.new) IsTidy) }
     ensures first { (r : Receipted)
         → IfSome (C.lists chronicle.old) (StartsWith r)
@@ -168,6 +171,9 @@ fn roll_back_next<D: Disk, C: Chronicle>(
     ensures failed_works { OnErr result (WorkedTo false config.now.file_size
         pool.old.highest pool.old.highest pool.new.highest (D.past disk.old) (D.past disk.new)) }
     ensures same_pool { OnErr result (pool.new ≡ pool.old) }
+    ensures failed_needs { OnErr result (WorkedTo true config.now.file_size pool.old.highest
+        pool.old.highest pool.new.highest (D.past disk.old) (D.past disk.new)
+        ⊎ IfSome (C.lists chronicle.new) (NextNeedsFile config.now)) }
     ensures tidy { OnOk result (Told (D.past disk.old) IsTidy → Told (D.past disk.new) IsTidy) }
     ensures first { (r : Receipted)
         → IfSome (C.lists chronicle.old) (StartsWith r)

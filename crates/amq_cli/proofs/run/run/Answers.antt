@@ -120,7 +120,7 @@ returns-in-Err g c = record {
         let past = g.D.Disk.past in
         let ends = opening_not_done c.in-Err.field-0.fault in
         subst (λ (s : Status). HasRunFiles s config kept.steps.items (past c.args.disk) (past c.in-Err.field-0.disk)) (sym c.status_of_opening.ensures)
-        (⊎_elim (λ synced. inr (ends, synced)) (λ made. inl (subst (λ (b : Bool). HasFilesOf b config (history_of kept.steps.items) (past c.args.disk) (past c.in-Err.field-0.disk)) (sym ends) made.files)) c.in-Err.ensures.failed_files));
+        (⊎_elim (λ synced. inr (ends, synced.0, synced.1)) (λ made. inl (subst (λ (b : Bool). HasFilesOf b config (history_of kept.steps.items) (past c.args.disk) (past c.in-Err.field-0.disk)) (sym ends) made.files)) c.in-Err.ensures.failed_files));
     legal = (let disk = c.in-Err.field-0.disk in
         let kept = c.in-Err.field-0.chronicle in
         let refused : IsOfRefusedOpening c.args.config (lists_of kept) (g.D.Disk.past c.args.disk) (g.D.Disk.past disk) (g.D.Disk.faults c.args.disk) (g.D.Disk.faults disk) c.in-Err.field-0.fault = record {

@@ -310,10 +310,10 @@ returns-in-Ok-clause-begun g c =
 -- only syncs came before
 pub returns-in_err-loaded-clause-failed_files : goal.returns-in_err-loaded-clause-failed_files
 returns-in_err-loaded-clause-failed_files g c =
-    on_err _ ((l : Lists) → l.steps ≡ [] → HasFailedFiles c.args.config.now l (g.D.Disk.past c.args.disk.now) (g.D.Disk.past c.find.new.disk)) (λ l none. inl c.find.ensures.crash)
+    on_err _ ((l : Lists) → l.steps ≡ [] → HasFailedFiles c.args.config.now l (g.D.Disk.past c.args.disk.now) (g.D.Disk.past c.find.new.disk)) (λ l none. inl (none, c.find.ensures.crash))
 
 pub returns-then-is_err-clause-failed_files : goal.returns-then-is_err-clause-failed_files
-returns-then-is_err-clause-failed_files g c l none = inl c.find.ensures.crash
+returns-then-is_err-clause-failed_files g c l none = inl (none, c.find.ensures.crash)
 
 pub returns-in-Err-clause-failed_files : goal.returns-in-Err-clause-failed_files
 returns-in-Err-clause-failed_files g c l none =

@@ -1,4 +1,4 @@
-use Rattle.std.proofs.Common.{◌≡◌, ◌<◌, ℕ, List, [], length, slice_get, refl, sym, ap, subst, ◌∙◌, arith, true, false}
+use Rattle.std.proofs.Common.{◌≡◌, ◌⊎◌, inl, inr, ⊎_elim, ◌<◌, ℕ, List, [], length, slice_get, refl, sym, ap, subst, ◌∙◌, arith, true, false}
 use Rattle.std.specs.Prelude.{take, IfSome}
 use Rattle.std.proofs.lemmas.Option.{slice_get-get_or}
 use Rattle.amq_model.specs.declared.history.Step.{Step}
@@ -7,7 +7,7 @@ use Rattle.amq_tx.specs.Tables.{state_of}
 use Rattle.amq_pool.specs.Pools.{PoolOf}
 use Rattle.amq_engine.specs.DataFiles.{WorkedTo, file_of_last}
 use Rattle.amq_engine.specs.Engine.{rolling, IsValid, end_of_tail}
-use Rattle.amq_engine.specs.Opening.{EndsIn, rollbacks_behind}
+use Rattle.amq_engine.specs.Opening.{EndsIn, NextNeedsFile, rollbacks_behind}
 use Rattle.amq_engine.specs.Owed.{AreOwedAtOpening}
 use Rattle.amq_engine.proofs.Receipts.{if_some}
 use Rattle.amq_engine.proofs.Started.{on_err}
@@ -144,3 +144,15 @@ returns-in_err-roll_back_next-clause-failed_few g c =
     on_err _ (IfSome (g.C.Chronicle.lists c.roll_back_next.new.chronicle) (λ l. P l.steps))
     (steps_so P before (g.C.Chronicle.lists c.roll_back_next.new.chronicle) c.in_err-roll_back_next.ensures.unstepped
     (if_some (λ l. ArePlaced c.args.config.now c.args.tail.now.file.id c.args.txs.now c.loop-done.done l.steps) (λ l. P l.steps) before (λ l are. omega (arith, are.0, more)) c.loop-done.invariant.placed))
+
+-- nor did it ask for a further file, but where it doesn't fit
+pub returns-in_err-roll_back_next-clause-failed_needs : goal.returns-in_err-roll_back_next-clause-failed_needs
+returns-in_err-roll_back_next-clause-failed_needs g c =
+    let past = g.D.Disk.past in
+    let size = c.args.config.now.file_size in
+    let first = c.args.pool.now.highest in
+    let mid = c.loop-done.pool.highest in
+    let last = c.roll_back_next.new.pool.highest in
+    let Needs : Type 0 = IfSome (g.C.Chronicle.lists c.roll_back_next.new.chronicle) (NextNeedsFile c.args.config.now) in
+    on_err _ (WorkedTo true size first first last (past c.args.disk.now) (past c.roll_back_next.new.disk) ⊎ Needs)
+    (⊎_elim (λ (w : WorkedTo true size mid mid last (past c.loop-done.disk) (past c.roll_back_next.new.disk)). inl (to_and_then true size first mid last (past c.args.disk.now) (past c.loop-done.disk) (past c.roll_back_next.new.disk) c.loop-done.invariant.works w)) (λ (n : Needs). inr n) c.in_err-roll_back_next.ensures.failed_needs)

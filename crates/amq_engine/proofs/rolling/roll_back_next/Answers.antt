@@ -1,5 +1,5 @@
-use Rattle.std.proofs.Common.{◌≡◌, ◌+◌, ◌-◌, ◌^◌, ◌≤◌, ℕ, Bool, true, false, [], ◌∷◌, ◌++◌, length, List, Option, None, Some, refl, sym, ap, subst, ◌∙◌, arith, cond}
-use Rattle.std.specs.Prelude.{IfSome, is_some, option_map, ◌&&◌}
+use Rattle.std.proofs.Common.{◌≡◌, ◌⊎◌, inl, inr, ⊎_elim, ◌+◌, ◌-◌, ◌^◌, ◌≤◌, ℕ, Bool, true, false, [], ◌∷◌, ◌++◌, length, List, Option, None, Some, refl, sym, ap, subst, ◌∙◌, arith, cond}
+use Rattle.std.specs.Prelude.{IfSome, IsTrue, is_some, option_map, ◌&&◌}
 use Rattle.amq_model.specs.declared.record.Placed.{Placed}
 use Rattle.amq_model.specs.declared.record.Record.TheVariants as rec
 use Rattle.amq_model.specs.declared.command.Command.TheVariants.{Rollback}
@@ -16,9 +16,10 @@ use Rattle.amq_engine.specs.Lists.{Lists, with_step, steps_in}
 use Rattle.amq_engine.specs.Engine.{rolling, IsValid, end_of_tail, passes, spent, refused, flushes, placed_behind, is_nil}
 use Rattle.amq_engine.specs.Opening.{NeedsFile, rollback_behind, EndsIn}
 use Rattle.amq_model.specs.Answers.{history_of}
+use Rattle.amq_model.specs.Legal.{needs_file}
 use Rattle.amq_engine.proofs.Sound.{sound_there, sound_within}
 use Rattle.amq_engine.proofs.Commanding.{spent_left, when_ok, few_appends, count_fits, put_fits, valid_room}
-use Rattle.amq_engine.proofs.RollingBack.{accepts_next, refused_spent, roll_spent, rolled_ends, valid_rolled}
+use Rattle.amq_engine.proofs.RollingBack.{accepts_next, refused_spent, roll_spent, rolled_ends, roll_needs, valid_rolled}
 use Rattle.amq_engine.proofs.GoingOn.{goes_still}
 use Rattle.amq_engine.proofs.Owing.{owed_in_opening, owed_same, owed_failed, owed_rolled}
 use Rattle.amq_engine.proofs.FilesTold.{sound_start, readied_most}
@@ -26,9 +27,9 @@ use Rattle.amq_model.specs.declared.config.Config.{Config}
 use Rattle.amq_pool.specs.declared.pool.PoolFile.{PoolFile}
 use Rattle.amq_engine.specs.DataFiles.{WorkedTo}
 use Rattle.amq_engine.proofs.DataFiles.{to_still, most_by, most_limit, none_by}
-use Rattle.amq_engine.proofs.OpenedFiles.{named_ready, rolled_to}
+use Rattle.amq_engine.proofs.OpenedFiles.{named_ready, rolled_to, failed_to}
 use Rattle.amq_engine.proofs.Beginning.{starts_same, starts_failed, starts_step, starts_receipted}
-use Rattle.amq_engine.proofs.Rollbacks.{placed_is, same_steps, steps_failed, steps_more}
+use Rattle.amq_engine.proofs.Rollbacks.{placed_is, same_steps, steps_failed, steps_more, steps_so}
 use Rattle.amq_engine.proofs.rolling.roll_back_next.Goals as goal
 
 pub returns-then-is_err-clause-failed : goal.returns-then-is_err-clause-failed
@@ -290,3 +291,31 @@ returns-in-Err-clause-failed_works g c =
   where
     no : false ≡ true → ⊥
     no e = cc
+
+-- nothing was asked
+pub returns-then-is_err-clause-failed_needs : goal.returns-then-is_err-clause-failed_needs
+returns-then-is_err-clause-failed_needs g c = inl (to_still true c.args.config.now.file_size c.args.pool.now.highest c.args.pool.now.highest (g.D.Disk.past c.args.disk.now) c.requires.valid.1.sound.parts.numbers)
+
+pub returns-then-is_some-clause-failed_needs : goal.returns-then-is_some-clause-failed_needs
+returns-then-is_some-clause-failed_needs g c = inl (to_still true c.args.config.now.file_size c.args.pool.now.highest c.args.pool.now.highest (g.D.Disk.past c.args.disk.now) c.requires.valid.1.sound.parts.numbers)
+
+-- a further file was asked for only where the rollback doesn't fit
+pub returns-in-Err-clause-failed_needs : goal.returns-in-Err-clause-failed_needs
+returns-in-Err-clause-failed_needs g c =
+    let e = c.args in
+    let past = g.D.Disk.past e.disk.now in
+    let lists = g.C.Chronicle.lists in
+    let v = c.requires.valid.1 in
+    let h = e.pool.now.highest in
+    let m = c.passes-moves.result in
+    let reached = c.ready.new.pool.highest in
+    let stage = rolling c.requires.valid.0 e.done in
+    let at : reached ≡ h = ap (λ (p : PoolOf). p.highest) c.in-Err.ensures.same_pool in
+    let ends : e.tail.now.end + length c.bytes.result.now ≡ end_of_tail e.tail.now = ap (λ (l : List ℕ). e.tail.now.end + length l) c.bytes.ensures in
+    let moves : m ≡ passes e.config.now.file_size (end_of_tail e.tail.now) (Some 18) = c.passes-moves.ensures ∙ ap (λ (n : ℕ). passes e.config.now.file_size n (Some 18)) ends in
+    let to = subst (λ (k : Config). WorkedTo true k.file_size h h reached past (g.D.Disk.past c.ready.new.disk) ⊎ (m ≡ true)) v.sound.parts.same_config
+    (failed_to m (is_nil e.pool.now.prepared) e.tail.now.file.name e.pool.now.config.file_size h reached past (g.D.Disk.past c.ready.new.disk) (ap (λ (f : PoolFile). f.name) c.requires.named) v.sound.parts.numbers at c.in-Err.ensures.failed_works) in
+    let P : List Step → Type 0 = λ ss. IsTrue (needs_file (history_of ss) e.config.now (Rollback 0)) in
+    ⊎_elim (λ (w : WorkedTo true e.config.now.file_size h h reached past (g.D.Disk.past c.ready.new.disk)). inl w)
+    (λ (moving : m ≡ true). inr (steps_so P (lists e.chronicle.now) (lists c.ready.new.chronicle) (returns-in-Err-clause-unstepped g c)
+    (roll_needs stage past (g.D.Disk.moment e.disk.now) (lists e.chronicle.now) (g.C.Chronicle.receipt_room e.chronicle.now) e.config.now (state_of e.table.now) e.pool.now e.tail.now v (sym moves ∙ moving)))) to

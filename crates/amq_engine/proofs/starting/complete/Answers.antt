@@ -1,4 +1,4 @@
-use Rattle.std.proofs.Common.{◌≡◌, ◌⊎◌, inl, inr, ◌<◌, ◌≤◌, false, arith, ℕ, List, ◌+◌, ◌-◌, ◌^◌, length, sym, ap, ◌∙◌, true, subst}
+use Rattle.std.proofs.Common.{◌≡◌, ◌⊎◌, inl, inr, ⊎_elim, ◌<◌, ◌≤◌, false, arith, ℕ, List, ◌+◌, ◌-◌, ◌^◌, length, sym, ap, ◌∙◌, true, subst}
 use Rattle.std.specs.Prelude.{min, take, is_ok, is_some, IfSome}
 use Rattle.amq_model.specs.declared.history.Step.{Step}
 use Rattle.amq_model.specs.Answers.{history_of}
@@ -8,7 +8,7 @@ use Rattle.amq_engine.specs.Lists.{Lists}
 use Rattle.amq_engine.specs.Receipts.{IsLastCount}
 use Rattle.amq_engine.specs.Engine.{rolling, with_files, end_of_tail}
 use Rattle.amq_engine.proofs.Sound.{sound_there, sound_within}
-use Rattle.amq_engine.specs.Opening.{EndsIn, rollbacks_behind}
+use Rattle.amq_engine.specs.Opening.{EndsIn, NextNeedsFile, rollbacks_behind}
 use Rattle.amq_engine.proofs.Started.{filled_by, on_err, valid_counted}
 use Rattle.amq_engine.proofs.Receipts.{if_some, both_some}
 use Rattle.amq_engine.proofs.Rollbacks.{same_steps, steps_so}
@@ -220,9 +220,12 @@ returns-in_err-roll_back-clause-failed_flushed g c =
     let first = c.args.tail.now.file.id in
     let highest = c.roll_back.new.pool.highest in
     let F : Lists → Type 0 = FailedFlushed c.args.config.now c.args.pool.now.highest highest c.args.txs.now (g.D.Disk.past c.args.disk.now) (g.D.Disk.past c.roll_back.new.disk) in
+    let Last : Lists → Type 0 = λ l. highest ≡ file_of_last first (history_of l.steps) in
+    let at : (l : Lists) → file_of_last first (history_of l.steps) ≡ file_of_last c.args.pool.now.highest (history_of l.steps) = λ l. sym (ap (λ (n : ℕ). file_of_last n (history_of l.steps)) c.requires.begun.1) in
     on_err _ (IfSome lists F)
-    (both_some (λ l. length l.steps < length c.args.txs.now) (λ l. highest ≡ file_of_last first (history_of l.steps)) F lists (λ l few last. inl (few, last ∙ sym (ap (λ (n : ℕ). file_of_last n (history_of l.steps)) c.requires.begun.1)))
-    c.in_err-roll_back.ensures.failed_few c.in_err-roll_back.ensures.failed_last)
+    (⊎_elim (λ w. if_some Last F lists (λ l last. inr (inl (last ∙ at l, w))) c.in_err-roll_back.ensures.failed_last)
+    (λ needs. both_some (λ l. length l.steps < length c.args.txs.now) (λ l. Last l × NextNeedsFile c.args.config.now l) F lists (λ l few so. inl (few, so.1, so.0 ∙ at l)) c.in_err-roll_back.ensures.failed_few
+    (both_some Last (NextNeedsFile c.args.config.now) (λ l. Last l × NextNeedsFile c.args.config.now l) lists (λ l last needs. (last, needs)) c.in_err-roll_back.ensures.failed_last needs)) c.in_err-roll_back.ensures.failed_needs)
 
 -- the flush failed, and no further file was asked for
 pub returns-in-Err-clause-failed_flushed : goal.returns-in-Err-clause-failed_flushed

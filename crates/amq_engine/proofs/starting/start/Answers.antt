@@ -244,7 +244,7 @@ returns-clause-opened_files g c =
 pub returns-in_default-clause-failed_files : goal.returns-in_default-clause-failed_files
 returns-in_default-clause-failed_files g c =
     let past = g.D.Disk.past c.args.disk.now in
-    if_some IsBlank (λ l. HasFailedFiles c.args.config.now l past past) (g.C.Chronicle.lists c.args.chronicle.now) (λ l blank. inl (syncs_none past)) c.requires.blank
+    if_some IsBlank (λ l. HasFailedFiles c.args.config.now l past past) (g.C.Chronicle.lists c.args.chronicle.now) (λ l blank. inl (blank.1, syncs_none past)) c.requires.blank
 
 pub returns-in_err-table-clause-failed_files : goal.returns-in_err-table-clause-failed_files
 returns-in_err-table-clause-failed_files g c =
