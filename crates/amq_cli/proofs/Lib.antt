@@ -5,6 +5,7 @@ pub mod Answering
 pub mod Ending
 pub mod Lines
 pub mod Running
+pub mod Opened
 pub mod Reporting
 pub mod Outputs
 pub mod Loading

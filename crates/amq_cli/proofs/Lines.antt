@@ -42,9 +42,9 @@ module _ {D : Type 0} (past : D → Option Past) (faults : D → Faults) where
     files = λ done first was. so_far_unfinished done e.config e.file e.end e.highest (lists_of e.chronicle) first (past e.disk) was;
   }
 
-  -- no call was made
-  still_open : (e : EngineOf D Kept) → e.closed ≡ None → Continues {T = Unit {0}} past faults (Ok tt) e e
-  still_open e unclosed = record {
+  -- no call was made, and the journal is open
+  unasked_open : (e : EngineOf D Kept) → e.closed ≡ None → Continues {T = Unit {0}} past faults (Ok tt) e e
+  unasked_open e unclosed = record {
     last = tt;
     closes = tt;
     unclosed = unclosed;
@@ -145,5 +145,5 @@ module _ {D : Type 0} (past : D → Option Past) (faults : D → Faults) where
       ended = λ done was. tt;
       owed = λ done was. tt;
       next = omega arith;
-      continues = still_open e unclosed;
+      continues = unasked_open e unclosed;
     })

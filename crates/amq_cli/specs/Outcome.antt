@@ -1,28 +1,25 @@
 -- What a run of the program promises, in the order in which a reader wants it.
-use Rattle.std.specs.Prelude.{◌≡◌, ◌≢◌, ◌⊎◌, ◌↔◌, ℕ, ◌≤◌, true, false, List, [], length, Option, None, Some}
+use Rattle.std.specs.Prelude.{◌≡◌, ◌⊎◌, ◌↔◌, ℕ, ◌≤◌, true, false, List, [], length, Option, None, Some}
 use Rattle.amq_model.specs.declared.config.Config.{Config}
 use Rattle.amq_model.specs.declared.script.Line.{Line}
 use Rattle.amq_model.specs.Answers.{history_of}
 use Rattle.amq_model.specs.Calls.{Past}
 use Rattle.amq_model.specs.Leaves.{Told, LeavesNothingNew}
-use Rattle.amq_model.specs.Legal.{AreLegal, rolled_back}
 use Rattle.amq_io.specs.Cause.{Faults}
 use Rattle.amq_engine.specs.declared.chronicle.Kept.{Kept}
-use Rattle.amq_engine.specs.DataFiles.{HasFilesOf, HasFilesSoFar}
-use Rattle.amq_engine.specs.Engine.{EngineOf, IsBlank, AreAppended, AreSpentAtLast}
+use Rattle.amq_engine.specs.Engine.{IsBlank, AreSpentAtLast}
 use Rattle.amq_engine.specs.Lists.{Lists}
-use Rattle.amq_engine.specs.Opening.{HasBase, StandsFrom, StandBehind}
-use Rattle.amq_engine.specs.Receipts.{IsCrashSafe, IsLastCount, GoesOn, BeginsBySyncs}
+use Rattle.amq_engine.specs.Opening.{HasBase}
+use Rattle.amq_engine.specs.Receipts.{IsCrashSafe, IsLastCount, BeginsBySyncs}
 use Rattle.amq_cli.specs.declared.status.Status.{Status}
 use Rattle.amq_cli.specs.declared.status.Status.TheVariants as s
 use Rattle.amq_cli.specs.declared.status.Unbuilt.TheVariants as u
 use Rattle.amq_cli.specs.declared.words.Task.{Task}
 use Rattle.amq_cli.specs.declared.words.Task.TheVariants as t
 use Rattle.amq_cli.specs.Counts.{HasSourceCount, HasSinkCount, HasDiskCount, HasPrintCounts}
-use Rattle.amq_cli.specs.Offline.{lists_of, is_done, HasCause, HasRun, HasRunOn, HasRunFiles, HasRunCause, HasDiskCause, HasText, HasLegal, HasRolledBack, IsOfOpened, IsOfRefusedOpening, AreInNewFiles, HasPlayCause, IsRun, IsPlayed, IsTextOf, IsOutput, IsPrint, IsScript, IsLoadedState, IsWritten, is_before_opening, is_past_script, is_unwritten}
+use Rattle.amq_cli.specs.Offline.{lists_of, HasCause, HasRun, HasRunFiles, HasRunCause, HasText, HasLegal, HasRolledBack, IsOfOpened, IsOfRefusedOpening, AreInNewFiles, HasPlayCause, IsRun, IsPlayed, IsTextOf, IsOutput, IsPrint, IsScript, IsLoadedState, IsWritten, is_before_opening, is_past_script, is_unwritten}
 use Rattle.amq_cli.specs.Output.{IsPartWritten}
 use Rattle.amq_cli.specs.Owed.{HasOwed, IsOwedRun}
-use Rattle.amq_cli.specs.Playing.{KeepsFirst}
 use Rattle.amq_cli.specs.Words.{prints, reads_script}
 
 -- ---- what is seen of a disk and of a stream
@@ -68,42 +65,6 @@ pub record IsTold (config : Config) (lists : Lists) (old new : Option Past) (mom
   pub opened : (lists.receipts ≡ []) ⊎ Told old (HasBase config.user_version lists.base)
   pub stands : AreInNewFiles config old lists.steps lists.receipts
   pub spent : AreSpentAtLast [] lists.steps
-
--- What giving these lines to an open journal promises, closing it and loading it again. Its parts mean what they do in `Outcome`.
-pub record RanOn {D : Type 0} (lines : List Line) (status : Status) (kept : Kept) (text' : List ℕ)
-    (engine : EngineOf D Kept) (disk disk' : SeenDisk D) : Type 0 where
-  pub crash_safe : IsCrashSafe disk'.past disk'.moment engine.config.user_version (lists_of kept)
-  pub durable :
-      status ≡ s.Ok
-      → IsLastCount (length (history_of kept.steps.items)) kept.receipts.items
-  pub owed : HasOwed engine.config lines kept.steps.items kept.receipts.items
-  pub run :
-      status ≡ s.Ok
-      → HasRunOn engine.config lines text' disk'.past kept.base kept.steps.items kept.receipts.items
-  pub text :
-      HasText engine.config.buffer_timeout status
-      (IsLoadedState disk'.past engine.config.user_version kept.base kept.steps.items)
-      (λ fault. ⊥) (Unit {0}) lines disk.faults disk'.faults
-      kept.steps.items kept.receipts.items text'
-  pub files :
-      (first : Option Past)
-      → HasFilesSoFar true engine.config engine.file engine.end engine.highest
-      (lists_of engine.chronicle) first disk.past
-      → HasFilesOf (is_done status) engine.config (history_of kept.steps.items) first disk'.past
-  pub stands :
-      (first : ℕ)
-      → StandsFrom engine.config first engine.file engine.end (lists_of engine.chronicle)
-      → StandBehind engine.config first 16 (history_of kept.steps.items)
-  pub legal : AreLegal kept.base kept.steps.items engine.config
-  pub rolled : AreAppended (length (rolled_back kept.base)) kept.steps.items
-  pub spent : AreSpentAtLast [] kept.steps.items
-  pub receipted : kept.receipts.items ≢ []
-  pub cause : HasDiskCause status disk.faults disk'.faults
-  pub count : HasDiskCount status disk.faults disk'.faults
-  pub later : disk.faults.0 ≤ disk'.faults.0
-  pub base : kept.base ≡ engine.chronicle.base
-  pub goes_on : GoesOn disk.past disk'.past
-  pub first : KeepsFirst (lists_of engine.chronicle) (lists_of kept)
 
 -- What a run of these lines on a journal promises, whose text is handed back. Its parts mean what they do in `Outcome`.
 pub record Ran {D : Type 0} (config : Config) (lines : List Line) (status : Status) (kept : Kept)

@@ -1,11 +1,10 @@
 //! Running the commands of a script on a disk.
-ghost use Rattle.std.specs.Prelude.{◌≡◌, ◌⊎◌, ◌≤◌, [], All, IsTrue, None};
+ghost use Rattle.std.specs.Prelude.{◌≡◌, ◌⊎◌, ◌≤◌, [], All, IsTrue};
 ghost use Rattle.amq_model.specs.Configs.{IsConfig};
 ghost use Rattle.amq_model.specs.Leaves.{Leaves, Unchanged};
 ghost use Rattle.amq_cli.specs.Offline.{IsReported, HasDiskCause};
-ghost use Rattle.amq_cli.specs.Outcome.{Ran, RanOn, seen_disk};
+ghost use Rattle.amq_cli.specs.Outcome.{Ran, seen_disk};
 ghost use Rattle.amq_cli.specs.Counts.{HasLoadCount};
-ghost use Rattle.amq_cli.specs.Playing.{HasPlayed};
 ghost use Rattle.amq_cli.specs.Replay.{is_built};
 ghost use Rattle.amq_cli.specs.Statuses.{status_of, status_of_opening};
 
@@ -34,41 +33,21 @@ pub fn run<D: Disk>(
         (seen_disk D.past D.moment D.faults disk) (seen_disk D.past D.moment D.faults result.1) }
 {
     let chronicle = Kept::new(alloc);
-    match Engine::open_on(alloc, disk, chronicle, config) {
-        Ok((engine, _state)) => run_on(alloc, config.user_version, engine, lines, text),
+    let mut engine = match Engine::open_on(alloc, disk, chronicle, config) {
+        Ok((engine, _state)) => engine,
         Err(
             OpenFailed {
                 disk,
                 chronicle,
                 fault,
             },
-        ) => (status_of_opening(fault), disk, chronicle),
-    }
-}
-
-/// Gives the lines to an open journal, closes it and loads it again.
-fn run_on<D: Disk>(
-    alloc: Global,
-    user_version: u32,
-    mut engine: Engine<D, Kept>,
-    lines: Vec<Line>,
-    text: &mut Vec<u8>,
-) -> (Status, D, Kept)
-    requires built { All (λ line. IsTrue (is_built line)) lines.items }
-    requires open { engine.closed ≡ None }
-    requires version { user_version ≡ engine.config.user_version }
-    requires config { IsConfig engine.config }
-    requires begun { HasPlayed engine.config.buffer_timeout [] (λ label. 0) 1 engine
-        text.old.items }
-    ensures ran { RanOn lines.items result.0 result.2 text.new.items engine
-        (seen_disk D.past D.moment D.faults engine.disk)
-        (seen_disk D.past D.moment D.faults result.1) }
-{
+        ) => return (status_of_opening(fault), disk, chronicle),
+    };
     let played = replay(alloc, &mut engine, lines, text);
     let (mut disk, chronicle, closed) = engine.close();
     let status = match played {
         Ok(()) => match closed {
-            Ok(_) => add_report(alloc, &mut disk, user_version, text),
+            Ok(_) => add_report(alloc, &mut disk, config.user_version, text),
             Err(refusal) => status_of_refusal(refusal),
         },
         Err(refusal) => status_of_refusal(refusal),
